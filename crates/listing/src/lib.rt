@@ -1,0 +1,3 @@
+// A listing of an image: the instruction at each address, as a linear sweep of the EPROM meets it.
+pub mod line;
+pub mod sweep;

@@ -1,0 +1,4 @@
+pub mod Splits
+pub mod Digits
+pub mod Pairs
+pub mod Lookups

@@ -1,0 +1,67 @@
+-- The arguments of a call, by their place among the line's words: word 0 is the call's name.
+use Prim.Native.Nat.{ℕ, _+_, _*_}
+use mathlib.Core.Bool.{cond}
+use mathlib.Core.List.{List}
+use lib.Dec.{eqb}
+use lib.ListN.{length, getD}
+use Rattle.std.specs.declared.option.Option.{Option}
+use Rattle.std.specs.declared.option.Option.the-variants.{Some, None}
+use Rattle.std.specs.declared.result.Result.{Result}
+use Rattle.std.specs.declared.result.Result.the-variants.{Ok, Err}
+use Rattle.board.specs.declared.reading.Reading.{Reading}
+use Rattle.board.specs.declared.reading.Outputs.{Outputs}
+use Rattle.script.specs.declared.call.Problem.{Problem}
+use Rattle.script.specs.declared.call.Problem.the-variants.{MissingArgument, ExtraArgument, BadNumber, BadKeys}
+use Rattle.script.specs.Words.{nth}
+use Rattle.script.specs.Numbers.{numberOf}
+use Rattle.script.specs.Hex.{andThen, hexPair}
+
+-- what f makes of a value, or the problem that stands in its place
+abbrev pub next : {X Y : Type 0} → Result X Problem → (X → Result Y Problem) → Result Y Problem
+next (Ok x) f = f x
+next (Err p) f = Err p
+
+-- the value, or this problem where there is none
+abbrev pub orElse : {X : Type 0} → Option X → Problem → Result X Problem
+orElse (Some x) p = Ok x
+orElse None p = Err p
+
+abbrev pub wordAt : List (List ℕ) → ℕ → Result (List ℕ) Problem
+wordAt ws place = orElse (nth ws place) MissingArgument
+
+abbrev pub numberAt : ℕ → List (List ℕ) → ℕ → Result ℕ Problem
+numberAt limit ws place = next (wordAt ws place) (λ w. orElse (numberOf limit w) BadNumber)
+
+abbrev pub byteAt : List (List ℕ) → ℕ → Result ℕ Problem
+byteAt ws place = numberAt 255 ws place
+
+-- no word stands at this place
+abbrev pub ended : Option (List ℕ) → Result (Unit {0}) Problem
+ended (Some w) = Err ExtraArgument
+ended None = Ok tt
+
+abbrev pub endAt : List (List ℕ) → ℕ → Result (Unit {0}) Problem
+endAt ws place = ended (nth ws place)
+
+-- five numbers from this place on: level A, open A, level B, open B, IRQ
+abbrev pub readingAt : List (List ℕ) → ℕ → Result Reading Problem
+readingAt ws place =
+    next (byteAt ws place) (λ a. next (byteAt ws (place + 1)) (λ b. next (byteAt ws (place + 2)) (λ c.
+    next (byteAt ws (place + 3)) (λ d. next (byteAt ws (place + 4)) (λ e.
+    Ok (record { «level_a» = a; «open_a» = b; «level_b» = c; «open_b» = d; irq = e }))))))
+
+-- four numbers from this place on: direction A, driven A, direction B, driven B
+abbrev pub outputsAt : List (List ℕ) → ℕ → Result Outputs Problem
+outputsAt ws place =
+    next (byteAt ws place) (λ a. next (byteAt ws (place + 1)) (λ b. next (byteAt ws (place + 2)) (λ c. next (byteAt ws (place + 3)) (λ d.
+    Ok (record { «direction_a» = a; «driven_a» = b; «direction_b» = c; «driven_b» = d })))))
+
+-- a matrix's number: exactly four hexadecimal digits
+abbrev pub keysOf : List ℕ → Option ℕ
+keysOf w =
+    cond (eqb (length w) 4)
+    (andThen (hexPair (getD w 0 0) (getD w 1 0)) (λ high. andThen (hexPair (getD w 2 0) (getD w 3 0)) (λ low. Some (high * 256 + low))))
+    None
+
+abbrev pub keysAt : List (List ℕ) → ℕ → Result ℕ Problem
+keysAt ws place = next (wordAt ws place) (λ w. orElse (keysOf w) BadKeys)
