@@ -1,13 +1,11 @@
 -- The board that stands alone, beside the machine.
-use Prim.Native.Nat.{ℕ, _≤_}
-use mathlib.Core.Path.{_≡_}
 use Rattle.std.specs.declared.option.Option.{Option}
 use Rattle.std.specs.declared.option.Option.the-variants.{Some, None}
 use Rattle.std.specs.declared.result.Result.{Result}
 use Rattle.std.specs.declared.result.Result.the-variants.{Ok, Err}
 use Rattle.board.specs.declared.any.AnyBoard.{AnyBoard}
 use Rattle.board.specs.declared.refused.BadEntry.{BadEntry}
-use Rattle.board.specs.Any.{anyShows, anyAdvanced, anyTold}
+use Rattle.board.specs.Any.{anyShows, anyAdvanced, anyTold, anyQuiet}
 use Rattle.script.specs.declared.call.Purpose.{Purpose}
 use Rattle.script.specs.declared.call.Purpose.the-variants.{NewMachine, Replacement, Alone}
 use Rattle.script.specs.declared.call.Question.{Question}
@@ -44,13 +42,13 @@ abbrev pub asked : Question → Option AnyBoard → Option AnyBoard
 asked question None = None
 asked question (Some board) = Some (askedOf question board)
 
--- which number of quiet cycles is answered is free, as long as the board is quiet for them
-abbrev pub QuietAnswer : AnyBoard → Answer → Type 0
-QuietAnswer board r = (q : ℕ) × (r ≡ QuietFor q) × ((k : ℕ) → k ≤ q → anyShows board k ≡ anyShows board 0)
+abbrev pub answerOf : Question → AnyBoard → Answer
+answerOf Show board = Shown (anyShows board 0)
+answerOf (Advance n) board = Done
+answerOf (Tell outputs) board = Done
+answerOf Quiet board = QuietFor (anyQuiet board)
 
-abbrev pub Answers : Question → Option AnyBoard → Answer → Type 0
-Answers question None r = r ≡ Failed NoBoard
-Answers Show (Some board) r = r ≡ Shown (anyShows board 0)
-Answers (Advance n) (Some board) r = r ≡ Done
-Answers (Tell outputs) (Some board) r = r ≡ Done
-Answers Quiet (Some board) r = QuietAnswer board r
+-- the answer to a question, which needs a board
+abbrev pub answered : Question → Option AnyBoard → Answer
+answered question None = Failed NoBoard
+answered question (Some board) = answerOf question board

@@ -1,21 +1,17 @@
 // The board that stands alone, beside the machine.
 ghost use mathlib.Core.Path.{_≡_};
-ghost use Rattle.bench.specs.Alone.{placed, placedAnswer, asked, Answers};
+ghost use Rattle.bench.specs.Alone.{placed, placedAnswer, asked, answered};
 use crate::answer::Answer;
 use crate::answer::Failure;
+use crate::boards::Made;
 use board::any::AnyBoard;
 use board::any::BoardByKind;
 use board::contract::Board;
-use board::refused::BadEntry;
 use script::call::Purpose;
 use script::call::Question;
 
 // Puts a board that was made in its place. No machine is offered yet, so one made for a machine has no place.
-pub fn place(
-    alone: &mut Option<AnyBoard<'static>>,
-    purpose: Purpose,
-    made: Result<AnyBoard<'static>, BadEntry>,
-) -> Answer
+pub fn place(alone: &mut Option<AnyBoard<'static>>, purpose: Purpose, made: Made) -> Answer
     ensures after { λ _. ⌜ now (alone .exit) ≡ placed purpose (made .entry) (now (alone .entry)) ⌝ }
     ensures value { λ r. ⌜ r ≡ placedAnswer purpose (made .entry) ⌝ }
 {
@@ -33,7 +29,7 @@ pub fn place(
 // Asks the board that stands alone.
 pub fn ask(alone: &mut Option<AnyBoard<'static>>, question: Question) -> Answer
     ensures after { λ _. ⌜ now (alone .exit) ≡ asked question (now (alone .entry)) ⌝ }
-    ensures answers { λ r. ⌜ Answers question (now (alone .entry)) r ⌝ }
+    ensures value { λ r. ⌜ r ≡ answered question (now (alone .entry)) ⌝ }
 {
     let Some(board) = alone else {
         return Answer::Failed(Failure::NoBoard);

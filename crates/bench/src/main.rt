@@ -1,6 +1,7 @@
 // The bench program: reads a script on standard input and answers each call on standard output, line by line.
 mod alone;
 mod answer;
+mod boards;
 mod image;
 mod session;
 

@@ -4,16 +4,15 @@ use crate::alone::place;
 use crate::answer::Answer;
 use crate::answer::AnswerDisplay;
 use crate::answer::Failure;
+use crate::boards::Made;
+use crate::boards::matrix;
+use crate::boards::schedule;
+use crate::boards::switches;
 use crate::image::Argument;
 use crate::image::print_listing;
 use crate::image::read_argument;
 use board::any::AnyBoard;
-use board::matrix::Matrix;
-use board::reading::Reading;
-use board::refused::BadEntry;
 use board::schedule::Entry;
-use board::schedule::Schedule;
-use board::switches::Switches;
 use script::call::Call;
 use script::call::Kind;
 use script::call::Purpose;
@@ -21,7 +20,6 @@ use script::line::is_skipped;
 use script::parse::parse_call;
 use script::parse::parse_entry;
 use script::word::word_at;
-use std::alloc::Global;
 use std::error::AnyError;
 
 // A schedule whose entries follow on the next lines: how many are still to come, and whether one was no entry.
@@ -37,24 +35,6 @@ struct Pending {
 pub struct Session {
     alone: Option<AnyBoard<'static>>,
     pending: Option<Pending>,
-}
-
-// The schedule of these entries, which are kept until the program ends, since a board refers to them.
-fn schedule(
-    heap: Global,
-    entries: Vec<Entry>,
-) -> Result<Result<AnyBoard<'static>, BadEntry>, AnyError> {
-    let kept: &'static Vec<Entry> = Box::leak(Box::new(heap, entries)?);
-    Ok(
-        match Schedule::new(kept.as_slice()) {
-            Ok(board) => Ok(AnyBoard::Schedule(board)),
-            Err(bad) => Err(bad),
-        },
-    )
-}
-
-fn switches(reading: Reading) -> Result<AnyBoard<'static>, BadEntry> {
-    Ok(AnyBoard::Switches(Switches::new(reading)?))
 }
 
 impl Session {
@@ -118,12 +98,7 @@ impl Session {
         self.place(rt, purpose, board)
     }
 
-    fn place(
-        &mut self,
-        rt: &LibcRuntime,
-        purpose: Purpose,
-        made: Result<AnyBoard<'static>, BadEntry>,
-    ) -> Result<(), AnyError> {
+    fn place(&mut self, rt: &LibcRuntime, purpose: Purpose, made: Made) -> Result<(), AnyError> {
         let answer = place(&mut self.alone, purpose, made);
         rt.println(answer)?;
         Ok(())
@@ -132,7 +107,7 @@ impl Session {
     fn make(&mut self, rt: &LibcRuntime, purpose: Purpose, kind: Kind) -> Result<(), AnyError> {
         match kind {
             Kind::Switches(reading) => self.place(rt, purpose, switches(reading)),
-            Kind::Matrix(keys) => self.place(rt, purpose, Ok(AnyBoard::Matrix(Matrix::new(keys)))),
+            Kind::Matrix(keys) => self.place(rt, purpose, matrix(keys)),
             Kind::Schedule(left) => {
                 let entries = Vec::new(rt.alloc());
                 self.read_on(

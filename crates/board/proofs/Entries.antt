@@ -14,7 +14,7 @@ use Rattle.std.specs.declared.option.Option.the-variants.{Some, None}
 use Rattle.board.specs.declared.reading.Reading.{Reading}
 use Rattle.board.specs.declared.schedule.Entry.{Entry}
 use Rattle.board.specs.Reading.{ranged, InRange, onPins}
-use Rattle.board.specs.Schedule.{cycleLimit, moment, readingAt, passed, lastAt, hasCome, calmAfter, good, badFrom, firstBad}
+use Rattle.board.specs.Schedule.{cycleLimit, moment, readingAt, passed, lastAt, hasCome, calmAfter, calmBefore, good, badFrom, firstBad}
 use Rattle.board.proofs.Pins.{pins-same}
 
 -- what a read past a list's end would give
@@ -39,6 +39,14 @@ module _ (es : List Entry) (n t : ℕ) (d : Reading) where
     )
     | inr ge ↦ (ap (λ x. passed x t) (drop-all n es ge), ap (λ x. readingAt d x t) (drop-all n es ge))
   ]
+
+-- how long it is calm before the entry at n, or past the last one
+module _ (es : List Entry) (n at : ℕ) where
+  pub calm-here : n < length es → calmBefore at (drop n es) ≡ calmAfter at (getD es n noEntry)
+  calm-here lt = ap (calmBefore at) (drop-more es n noEntry lt)
+
+  pub calm-past : length es ≤ n → calmBefore at (drop n es) ≡ 65535
+  calm-past ge = ap (calmBefore at) (drop-all n es ge)
 
 -- nothing changes while the entry at n does not come
 pub unchanged : (es : List Entry) (n at k : ℕ) (d : Reading) → (n < length es → k ≤ calmAfter at (getD es n noEntry)) → readingAt d (drop n es) (moment at k) ≡ readingAt d (drop n es) (moment at 0)

@@ -5,7 +5,7 @@ use Rattle.board.specs.declared.reading.Outputs.{Outputs}
 use Rattle.board.specs.declared.any.AnyBoard.{AnyBoard}
 use Rattle.board.specs.declared.any.AnyBoard.the-variants.{Switches, Schedule, Matrix}
 use Rattle.board.specs.Switches.{switchesShows, switchesAdvanced, switchesTold}
-use Rattle.board.specs.Schedule.{scheduleShows, scheduleAdvanced, scheduleTold}
+use Rattle.board.specs.Schedule.{scheduleShows, scheduleAdvanced, scheduleTold, scheduleQuiet}
 use Rattle.board.specs.Matrix.{matrixShows, matrixAdvanced, matrixTold}
 
 -- what its kind shows
@@ -25,3 +25,9 @@ abbrev pub anyTold : AnyBoard → Outputs → AnyBoard
 anyTold (Switches s) o = Switches (switchesTold s o)
 anyTold (Schedule s) o = Schedule (scheduleTold s o)
 anyTold (Matrix m) o = Matrix (matrixTold m o)
+
+-- what its kind answers to the question for how long it is quiet
+abbrev pub anyQuiet : AnyBoard → ℕ
+anyQuiet (Switches s) = 65535
+anyQuiet (Schedule s) = scheduleQuiet s
+anyQuiet (Matrix m) = 65535

@@ -78,3 +78,12 @@ scheduleAdvanced s n = record {
 -- outputs change nothing
 abbrev pub scheduleTold : Schedule → Outputs → Schedule
 scheduleTold s o = s
+
+-- for how many cycles after t the first of these entries does not come, as far as 65,535
+abbrev pub calmBefore : ℕ → List Entry → ℕ
+calmBefore t [] = 65535
+calmBefore t (e ∷ es) = calmAfter t e
+
+-- for how many cycles it says that it shows no other entry
+abbrev pub scheduleQuiet : Schedule → ℕ
+scheduleQuiet s = calmBefore (s .at) (ahead s)

@@ -1,7 +1,8 @@
 // A board whose kind is chosen at run time.
 ghost use mathlib.Core.Path.{_≡_};
 ghost use Rattle.board.specs.declared.any.AnyBoard.the-variants.{Switches as ofSwitches, Schedule as ofSchedule, Matrix as ofMatrix};
-ghost use Rattle.board.specs.Any.{anyShows, anyAdvanced, anyTold};
+ghost use Prim.Native.Nat.{ℕ, _≤_};
+ghost use Rattle.board.specs.Any.{anyQuiet, anyShows, anyAdvanced, anyTold};
 ghost use Rattle.board.specs.LawsKept.{anyLaws};
 use crate::contract::Board;
 use crate::matrix::Matrix;
@@ -70,7 +71,11 @@ pub impl<'a> Board for AnyBoard<'a> as BoardByKind {
         }
     }
 
-    fn quiet(&self) -> u16 {
+    // What its kind answers.
+    fn quiet(&self) -> u16
+        ensures still { λ q. ⌜ ((k : ℕ) → k ≤ q → anyShows (now (self .entry)) k ≡ anyShows (now (self .entry)) 0) ⌝ }
+        ensures most { λ q. ⌜ q ≡ anyQuiet (now (self .entry)) ⌝ }
+    {
         match self {
             AnyBoard::Switches(board) => board.quiet(),
             AnyBoard::Schedule(board) => board.quiet(),

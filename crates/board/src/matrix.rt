@@ -1,6 +1,6 @@
 // A keyboard matrix: sixteen keys between four rows, PB0 to PB3, and four columns, PA0 to PA3.
 ghost use mathlib.Core.Path.{_≡_};
-ghost use Prim.Native.Nat.{_<_};
+ghost use Prim.Native.Nat.{ℕ, _<_, _≤_};
 ghost use Rattle.board.specs.Matrix.{row, columns, matrixOf, matrixShows, matrixAdvanced, matrixTold};
 ghost use Rattle.board.specs.LawsKept.{matrixLaws};
 use crate::contract::Board;
@@ -70,7 +70,11 @@ pub impl Board for Matrix as MatrixBoard {
 
     fn advance(&mut self, n: u16) {}
 
-    fn quiet(&self) -> u16 {
+    // The most cycles there are.
+    fn quiet(&self) -> u16
+        ensures still { λ q. ⌜ ((k : ℕ) → k ≤ q → matrixShows (now (self .entry)) k ≡ matrixShows (now (self .entry)) 0) ⌝ }
+        ensures most { λ q. ⌜ q ≡ 65535 ⌝ }
+    {
         u16::MAX
     }
 

@@ -1,10 +1,10 @@
 // A board that follows a list of readings in the host's memory.
 ghost use mathlib.Core.Path.{_≡_};
-ghost use Prim.Native.Nat.{ℕ, _+_};
+ghost use Prim.Native.Nat.{ℕ, _+_, _≤_};
 ghost use lib.ListN.{drop};
 ghost use Rattle.std.specs.declared.option.Option.the-variants.{Some, None};
 ghost use Rattle.std.specs.declared.result.Result.the-variants.{Ok, Err};
-ghost use Rattle.board.specs.Schedule.{hasCome, calmAfter, good, badFrom, firstBad, passed, readingAt, lastAt, scheduleShows, scheduleAdvanced, scheduleTold};
+ghost use Rattle.board.specs.Schedule.{hasCome, calmAfter, good, badFrom, firstBad, passed, readingAt, lastAt, scheduleShows, scheduleAdvanced, scheduleTold, scheduleQuiet};
 ghost use Rattle.board.specs.LawsKept.{scheduleLaws};
 use crate::contract::Board;
 use crate::reading::Outputs;
@@ -135,7 +135,11 @@ pub impl<'a> Board for Schedule<'a> as ScheduleBoard {
         self.current = current;
     }
 
-    fn quiet(&self) -> u16 {
+    // The cycles before the next entry comes, as far as the answer reaches.
+    fn quiet(&self) -> u16
+        ensures still { λ q. ⌜ ((k : ℕ) → k ≤ q → scheduleShows (now (self .entry)) k ≡ scheduleShows (now (self .entry)) 0) ⌝ }
+        ensures most { λ q. ⌜ q ≡ scheduleQuiet (now (self .entry)) ⌝ }
+    {
         match self.entries.get(self.next) {
             Some(entry) => entry.calm_after(self.at),
             None => u16::MAX,

@@ -1,6 +1,6 @@
 // A board of switches and wires that stay as they are.
 ghost use mathlib.Core.Path.{_≡_};
-ghost use Prim.Native.Nat.{ℕ};
+ghost use Prim.Native.Nat.{ℕ, _≤_};
 ghost use Rattle.std.specs.Vec.{made};
 ghost use Rattle.board.specs.Switches.{switchesOf, switchesShows, switchesAdvanced, switchesTold};
 ghost use Rattle.board.specs.LawsKept.{switchesLaws};
@@ -44,7 +44,11 @@ pub impl Board for Switches as SwitchesBoard {
 
     fn advance(&mut self, n: u16) {}
 
-    fn quiet(&self) -> u16 {
+    // The most cycles there are.
+    fn quiet(&self) -> u16
+        ensures still { λ q. ⌜ ((k : ℕ) → k ≤ q → switchesShows (now (self .entry)) k ≡ switchesShows (now (self .entry)) 0) ⌝ }
+        ensures most { λ q. ⌜ q ≡ 65535 ⌝ }
+    {
         u16::MAX
     }
 

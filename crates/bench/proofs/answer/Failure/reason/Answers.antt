@@ -9,12 +9,6 @@ returns-in-NoBoard c = rw (c .in-NoBoard .is)
 pub returns-in-BadEntry : need.returns-in-BadEntry
 returns-in-BadEntry c = rw (c .in-BadEntry .is)
 
-pub returns-in-MissingEntries : need.returns-in-MissingEntries
-returns-in-MissingEntries c = rw (c .in-MissingEntries .is)
-
-pub returns-in-NotText : need.returns-in-NotText
-returns-in-NotText c = rw (c .in-NotText .is)
-
 pub returns-in-BadBytes : need.returns-in-BadBytes
 returns-in-BadBytes c = rw (c .in-BadBytes .is)
 
