@@ -1,4 +1,7 @@
 // The listing of an image.
+use crate::answer::Answer;
+use crate::answer::AnswerDisplay;
+use crate::answer::Failure;
 use listing::line::byte_at;
 use listing::sweep::next_line;
 use part::image::ImageRefused;
@@ -6,19 +9,21 @@ use part::image::check_image;
 use part::layout::ADDRESS_SPACE;
 use part::layout::EPROM_FIRST;
 use part::layout::Vector;
+use script::hex::bytes_of;
+use script::word::word_at;
 use std::error::AnyError;
 use std::fs;
 
 // The byte string that an argument gives, or why it gives none.
 #[derive(Drop)]
-pub enum Argument {
+enum Argument {
     Bytes(Vec<u8>),
     UnreadFile,
     NoBytes,
 }
 
 // Bytes in hexadecimal, or the file whose path follows an @.
-pub fn read_argument(rt: &LibcRuntime, argument: &str) -> Result<Argument, AnyError> {
+fn read_argument(rt: &LibcRuntime, argument: &str) -> Result<Argument, AnyError> {
     if let Some(path) = argument.strip_prefix('@') {
         return Ok(
             match fs::read(rt, path) {
@@ -28,7 +33,7 @@ pub fn read_argument(rt: &LibcRuntime, argument: &str) -> Result<Argument, AnyEr
         );
     }
     Ok(
-        match script::hex::bytes_of(rt.alloc(), argument)? {
+        match bytes_of(rt.alloc(), argument)? {
             Some(bytes) => Argument::Bytes(bytes),
             None => Argument::NoBytes,
         },
@@ -66,7 +71,7 @@ fn print_vector(
 }
 
 // Checks the image, and prints its instructions and vectors and how many lines that were.
-pub fn print_listing(rt: &LibcRuntime, image: &[u8]) -> Result<(), AnyError> {
+fn print_listing(rt: &LibcRuntime, image: &[u8]) -> Result<(), AnyError> {
     if let Err(refused) = check_image(image) {
         let number = refused.refusal().number();
         match refused {
@@ -82,4 +87,16 @@ pub fn print_listing(rt: &LibcRuntime, image: &[u8]) -> Result<(), AnyError> {
     print_vector(rt, image, Vector::Reset, "reset")?;
     println!(rt, "ok {count}")?;
     Ok(())
+}
+
+// Lists the image that the line's second word gives.
+pub fn list(rt: &LibcRuntime, line: &str) -> Result<(), AnyError> {
+    let Some(argument) = word_at(line, 1) else {
+        return Ok(());
+    };
+    match read_argument(rt, argument)? {
+        Argument::Bytes(bytes) => print_listing(rt, bytes.as_slice()),
+        Argument::UnreadFile => Ok(rt.println(Answer::Failed(Failure::UnreadFile))?),
+        Argument::NoBytes => Ok(rt.println(Answer::Failed(Failure::BadBytes))?),
+    }
 }

@@ -8,11 +8,22 @@ mod session;
 use answer::Answer;
 use answer::AnswerDisplay;
 use answer::Failure;
+use image::list;
 use script::line::content;
+use session::Reply;
 use session::Session;
 use std::error::AnyError;
 use std::io::BufRead;
 use std::io::BufReader;
+
+// Prints what a line calls for.
+fn print(rt: &LibcRuntime, line: &str, reply: Reply) -> Result<(), AnyError> {
+    match reply {
+        Reply::Nothing => Ok(()),
+        Reply::Said(answer) => Ok(rt.println(answer)?),
+        Reply::Listing => list(rt, line),
+    }
+}
 
 fn run(rt: &LibcRuntime) -> Result<(), AnyError> {
     let mut input = BufReader::new(rt.stdin());
@@ -24,11 +35,11 @@ fn run(rt: &LibcRuntime) -> Result<(), AnyError> {
             break;
         }
         match std::str::from_utf8(content(bytes.as_slice())) {
-            Ok(line) => session.line(rt, line)?,
+            Ok(line) => print(rt, line, session.line(rt.alloc(), line)?)?,
             Err(_) => rt.println(Answer::Failed(Failure::NotText))?,
         }
     }
-    session.end(rt)
+    print(rt, "", session.end())
 }
 
 fn main(rt: LibcRuntime) -> Result<(), AnyError> {

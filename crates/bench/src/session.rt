@@ -1,16 +1,16 @@
-// A script's session: the board that stands alone, and a schedule whose entries are still being read.
+// A script's session: the board that stands alone, and a schedule whose entries are still to be read.
+ghost use mathlib.Core.Path.{_≡_};
+ghost use Rattle.std.specs.Vec.{made};
+ghost use Rattle.script.specs.Words.{words};
+ghost use Rattle.script.specs.Calls.{callOf, entryOf};
+ghost use Rattle.bench.specs.Session.{fresh, endReply, Read, Begun, MadeOf, Called, WithLine, EntryRead, LineRead};
 use crate::alone::ask;
 use crate::alone::place;
 use crate::answer::Answer;
-use crate::answer::AnswerDisplay;
 use crate::answer::Failure;
-use crate::boards::Made;
 use crate::boards::matrix;
 use crate::boards::schedule;
 use crate::boards::switches;
-use crate::image::Argument;
-use crate::image::print_listing;
-use crate::image::read_argument;
 use board::any::AnyBoard;
 use board::schedule::Entry;
 use script::call::Call;
@@ -19,12 +19,12 @@ use script::call::Purpose;
 use script::line::is_skipped;
 use script::parse::parse_call;
 use script::parse::parse_entry;
-use script::word::word_at;
-use std::error::AnyError;
+use std::alloc::AllocError;
+use std::alloc::Global;
 
-// A schedule whose entries follow on the next lines: how many are still to come, and whether one was no entry.
+// A schedule whose entries follow: how many are still to come, and whether a line was no entry.
 #[derive(Drop)]
-struct Pending {
+pub struct Waiting {
     purpose: Purpose,
     left: u32,
     entries: Vec<Entry>,
@@ -34,122 +34,144 @@ struct Pending {
 #[derive(Drop)]
 pub struct Session {
     alone: Option<AnyBoard<'static>>,
-    pending: Option<Pending>,
+    waiting: Option<Waiting>,
+}
+
+// What a line calls for: nothing yet, an answer, or the listing of the image that it gives.
+#[derive(Clone, Copy)]
+pub enum Reply {
+    Nothing,
+    Said(Answer),
+    Listing,
+}
+
+impl Waiting {
+    // One line read: its entry comes last, and a line that is none is noted.
+    fn with_line(self, line: &str) -> Result<Waiting, AllocError>
+        ensures { λ r. ⌜ made r (λ w. WithLine (entryOf (words (now (line .entry)))) self w) ⌝ }
+    {
+        let Waiting {
+            purpose,
+            left,
+            mut entries,
+            mut unread,
+        } = self;
+        match parse_entry(line) {
+            Ok(entry) => entries.push(entry)?,
+            Err(_) => unread = true,
+        }
+        let left = left.saturating_sub(1);
+        Ok(Waiting {
+            purpose,
+            left,
+            entries,
+            unread,
+        })
+    }
 }
 
 impl Session {
-    pub fn new() -> Session {
+    pub fn new() -> Session
+        ensures { λ r. ⌜ r ≡ fresh ⌝ }
+    {
         Session {
             alone: None,
-            pending: None,
+            waiting: None,
         }
     }
 
     // One line of the script.
-    pub fn line(&mut self, rt: &LibcRuntime, line: &str) -> Result<(), AnyError> {
+    pub fn line(&mut self, heap: Global, line: &str) -> Result<Reply, AllocError>
+        ensures { λ r. ⌜ made r (λ reply. LineRead (now (line .entry)) (now (self .entry)) reply (now (self .exit))) ⌝ }
+    {
         if is_skipped(line) {
-            return Ok(());
+            return Ok(Reply::Nothing);
         }
-        match self.pending.take() {
-            Some(pending) => self.entry(rt, pending, line),
-            None => self.call(rt, line),
+        match self.waiting.take() {
+            Some(waiting) => self.entry(heap, waiting, line),
+            None => self.call(heap, line),
         }
     }
 
     // The script is at its end.
-    pub fn end(self, rt: &LibcRuntime) -> Result<(), AnyError> {
-        if self.pending.is_some() {
-            rt.println(Answer::Failed(Failure::MissingEntries))?;
+    pub fn end(&self) -> Reply
+        ensures { λ r. ⌜ r ≡ endReply (now (self .entry) .waiting) ⌝ }
+    {
+        match self.waiting {
+            Some(_) => Reply::Said(Answer::Failed(Failure::MissingEntries)),
+            None => Reply::Nothing,
         }
-        Ok(())
     }
 
-    fn entry(
-        &mut self,
-        rt: &LibcRuntime,
-        mut pending: Pending,
-        line: &str,
-    ) -> Result<(), AnyError> {
-        match parse_entry(line) {
-            Ok(entry) => pending.entries.push(entry)?,
-            Err(_) => pending.unread = true,
-        }
-        pending.left = pending.left.saturating_sub(1);
-        self.read_on(rt, pending)
+    // One entry of a schedule.
+    fn entry(&mut self, heap: Global, waiting: Waiting, line: &str) -> Result<Reply, AllocError>
+        ensures { λ r. ⌜ made r (λ reply. EntryRead (entryOf (words (now (line .entry)))) waiting (now (self .entry)) reply (now (self .exit))) ⌝ }
+    {
+        let waiting = waiting.with_line(line)?;
+        self.read_on(heap, waiting)
     }
 
     // Waits for the entries that are still to come, or makes the board.
-    fn read_on(&mut self, rt: &LibcRuntime, pending: Pending) -> Result<(), AnyError> {
-        if pending.left > 0 {
-            self.pending = Some(pending);
-            return Ok(());
+    fn read_on(&mut self, heap: Global, waiting: Waiting) -> Result<Reply, AllocError>
+        ensures { λ r. ⌜ made r (λ reply. Read waiting (now (self .entry)) reply (now (self .exit))) ⌝ }
+    {
+        if waiting.left > 0 {
+            self.waiting = Some(waiting);
+            return Ok(Reply::Nothing);
         }
-        let Pending {
+        let Waiting {
             purpose,
             left: _,
             entries,
             unread,
-        } = pending;
+        } = waiting;
         if unread {
-            rt.println(Answer::Failed(Failure::BadEntry))?;
-            return Ok(());
+            return Ok(Reply::Said(Answer::Failed(Failure::BadEntry)));
         }
-        let board = schedule(rt.alloc(), entries)?;
-        self.place(rt, purpose, board)
+        let board = schedule(heap, entries)?;
+        Ok(Reply::Said(place(&mut self.alone, purpose, board)))
     }
 
-    fn place(&mut self, rt: &LibcRuntime, purpose: Purpose, made: Made) -> Result<(), AnyError> {
-        let answer = place(&mut self.alone, purpose, made);
-        rt.println(answer)?;
-        Ok(())
+    // Begins to read a schedule of so many entries.
+    fn begin(&mut self, heap: Global, purpose: Purpose, left: u32) -> Result<Reply, AllocError>
+        ensures { λ r. ⌜ made r (λ reply. Begun purpose left (now (self .entry)) reply (now (self .exit))) ⌝ }
+    {
+        let entries = Vec::new(heap);
+        self.read_on(
+            heap,
+            Waiting {
+                purpose,
+                left,
+                entries,
+                unread: false,
+            },
+        )
     }
 
-    fn make(&mut self, rt: &LibcRuntime, purpose: Purpose, kind: Kind) -> Result<(), AnyError> {
-        match kind {
-            Kind::Switches(reading) => self.place(rt, purpose, switches(reading)),
-            Kind::Matrix(keys) => self.place(rt, purpose, matrix(keys)),
-            Kind::Schedule(left) => {
-                let entries = Vec::new(rt.alloc());
-                self.read_on(
-                    rt,
-                    Pending {
-                        purpose,
-                        left,
-                        entries,
-                        unread: false,
-                    },
-                )
-            }
-        }
-    }
-
-    fn call(&mut self, rt: &LibcRuntime, line: &str) -> Result<(), AnyError> {
-        let answer = match parse_call(line) {
-            Ok(Call::Make(purpose, kind)) => return self.make(rt, purpose, kind),
-            Ok(Call::Listing) => return list(rt, line),
-            Ok(Call::Ask(question)) => ask(&mut self.alone, question),
-            Ok(Call::NotOffered) => Answer::Failed(Failure::NotOffered),
-            Err(problem) => Answer::Failed(Failure::Line(problem)),
+    // Makes the board that a call describes.
+    fn make(&mut self, heap: Global, purpose: Purpose, kind: Kind) -> Result<Reply, AllocError>
+        ensures { λ r. ⌜ made r (λ reply. MadeOf purpose kind (now (self .entry)) reply (now (self .exit))) ⌝ }
+    {
+        let board = match kind {
+            Kind::Switches(reading) => switches(reading),
+            Kind::Matrix(keys) => matrix(keys),
+            Kind::Schedule(left) => return self.begin(heap, purpose, left),
         };
-        rt.println(answer)?;
-        Ok(())
+        Ok(Reply::Said(place(&mut self.alone, purpose, board)))
     }
-}
 
-// Lists the image that the line's second word gives.
-fn list(rt: &LibcRuntime, line: &str) -> Result<(), AnyError> {
-    let Some(argument) = word_at(line, 1) else {
-        return Ok(());
-    };
-    match read_argument(rt, argument)? {
-        Argument::Bytes(bytes) => print_listing(rt, bytes.as_slice()),
-        Argument::UnreadFile => {
-            rt.println(Answer::Failed(Failure::UnreadFile))?;
-            Ok(())
-        }
-        Argument::NoBytes => {
-            rt.println(Answer::Failed(Failure::BadBytes))?;
-            Ok(())
-        }
+    // One call.
+    fn call(&mut self, heap: Global, line: &str) -> Result<Reply, AllocError>
+        ensures { λ r. ⌜ made r (λ reply. Called (callOf (now (line .entry))) (now (self .entry)) reply (now (self .exit))) ⌝ }
+    {
+        Ok(
+            match parse_call(line) {
+                Ok(Call::Make(purpose, kind)) => return self.make(heap, purpose, kind),
+                Ok(Call::Listing) => Reply::Listing,
+                Ok(Call::Ask(question)) => Reply::Said(ask(&mut self.alone, question)),
+                Ok(Call::NotOffered) => Reply::Said(Answer::Failed(Failure::NotOffered)),
+                Err(problem) => Reply::Said(Answer::Failed(Failure::Line(problem))),
+            },
+        )
     }
 }
