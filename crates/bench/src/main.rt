@@ -1,47 +1,6 @@
-// The bench program: reads a script on standard input and answers each call on standard output, line by line.
-mod alone;
-mod answer;
-mod boards;
-mod image;
-mod session;
-
-use answer::Answer;
-use answer::AnswerDisplay;
-use answer::Failure;
-use image::list;
-use script::line::content;
-use session::Reply;
-use session::Session;
+// The bench program: answers a script on standard input. Its own script here is the worked example of the README.
 use std::error::AnyError;
-use std::io::BufRead;
-use std::io::BufReader;
-
-// Prints what a line calls for.
-fn print(rt: &LibcRuntime, line: &str, reply: Reply) -> Result<(), AnyError> {
-    match reply {
-        Reply::Nothing => Ok(()),
-        Reply::Said(answer) => Ok(rt.println(answer)?),
-        Reply::Listing => list(rt, line),
-    }
-}
-
-fn run(rt: &LibcRuntime) -> Result<(), AnyError> {
-    let mut input = BufReader::new(rt.stdin());
-    let mut session = Session::new();
-    let mut bytes = Vec::new(rt.alloc());
-    for _ in 0..u64::MAX {
-        bytes.clear();
-        if input.read_until(b'\n', &mut bytes)? == 0 {
-            break;
-        }
-        match std::str::from_utf8(content(bytes.as_slice())) {
-            Ok(line) => print(rt, line, session.line(rt.alloc(), line)?)?,
-            Err(_) => rt.println(Answer::Failed(Failure::NotText))?,
-        }
-    }
-    print(rt, "", session.end())
-}
 
 fn main(rt: LibcRuntime) -> Result<(), AnyError> {
-    rt.report(run(&rt))
+    rt.report(console::run(&rt))
 }
