@@ -6,5 +6,3 @@ pub mod reading;
 pub mod refused;
 pub mod schedule;
 pub mod switches;
-#[cfg(test)]
-mod tests;

@@ -1,7 +1,11 @@
-// Examples of the image check, the script language and the listing, each proved safe and then run.
+// Examples of each library on small cases, each proved safe and then run.
+#[cfg(test)]
+mod boards;
 #[cfg(test)]
 mod image;
 #[cfg(test)]
 mod listing_text;
+#[cfg(test)]
+mod opcode_rows;
 #[cfg(test)]
 mod script_lines;

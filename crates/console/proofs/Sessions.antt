@@ -5,8 +5,8 @@ use mathlib.Core.List.{List}
 use Prim.Native.Nat.{ℕ}
 use Rattle.std.specs.declared.option.Option.{Option}
 use Rattle.std.specs.declared.option.Option.the-variants.{Some, None}
-use Rattle.script.specs.Lines.{skipped}
-use Rattle.script.specs.Words.{words}
+use Rattle.text.specs.Lines.{skipped}
+use Rattle.text.specs.Words.{words}
 use Rattle.script.specs.Calls.{callOf, entryOf}
 use Rattle.console.specs.declared.session.Waiting.{Waiting}
 use Rattle.console.specs.declared.session.Session.{Session}

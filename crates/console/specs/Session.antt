@@ -12,8 +12,8 @@ use Rattle.std.specs.declared.result.Result.the-variants.{Ok, Err}
 use Rattle.board.specs.declared.any.AnyBoard.{AnyBoard}
 use Rattle.board.specs.declared.refused.BadEntry.{BadEntry}
 use Rattle.board.specs.declared.schedule.Entry.{Entry}
-use Rattle.script.specs.Lines.{skipped}
-use Rattle.script.specs.Words.{words}
+use Rattle.text.specs.Lines.{skipped}
+use Rattle.text.specs.Words.{words}
 use Rattle.script.specs.Calls.{callOf, entryOf}
 use Rattle.script.specs.declared.call.Problem.{Problem}
 use Rattle.script.specs.declared.call.Purpose.{Purpose}

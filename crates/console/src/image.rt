@@ -9,8 +9,8 @@ use part::image::check_image;
 use part::layout::ADDRESS_SPACE;
 use part::layout::EPROM_FIRST;
 use part::layout::Vector;
-use script::hex::bytes_of;
-use script::word::word_at;
+use text::hex::bytes_of;
+use text::word::word_at;
 use std::error::AnyError;
 use std::fs;
 

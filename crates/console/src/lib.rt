@@ -9,7 +9,7 @@ use answer::Answer;
 use answer::AnswerDisplay;
 use answer::Failure;
 use image::list;
-use script::line::content;
+use text::line::content;
 use session::Reply;
 use session::Session;
 use std::error::AnyError;

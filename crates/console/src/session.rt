@@ -1,7 +1,7 @@
 // A script's session: the board that stands alone, and a schedule whose entries are still to be read.
 ghost use mathlib.Core.Path.{_≡_};
 ghost use Rattle.std.specs.Vec.{made};
-ghost use Rattle.script.specs.Words.{words};
+ghost use Rattle.text.specs.Words.{words};
 ghost use Rattle.script.specs.Calls.{callOf, entryOf};
 ghost use Rattle.console.specs.Session.{fresh, endReply, Read, Begun, MadeOf, Called, WithLine, EntryRead, LineRead};
 use crate::alone::ask;
@@ -16,7 +16,7 @@ use board::schedule::Entry;
 use script::call::Call;
 use script::call::Kind;
 use script::call::Purpose;
-use script::line::is_skipped;
+use text::line::is_skipped;
 use script::parse::parse_call;
 use script::parse::parse_entry;
 use std::alloc::AllocError;

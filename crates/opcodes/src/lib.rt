@@ -5,8 +5,6 @@ mod mnemonic;
 mod operand;
 mod operation;
 mod table;
-#[cfg(test)]
-mod tests;
 
 pub use addressing::Addressing;
 pub use addressing::Row;

@@ -1,4 +1,1 @@
-pub mod Splits
-pub mod Digits
-pub mod Pairs
 pub mod Lookups

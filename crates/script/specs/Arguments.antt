@@ -12,9 +12,9 @@ use Rattle.board.specs.declared.reading.Reading.{Reading}
 use Rattle.board.specs.declared.reading.Outputs.{Outputs}
 use Rattle.script.specs.declared.call.Problem.{Problem}
 use Rattle.script.specs.declared.call.Problem.the-variants.{MissingArgument, ExtraArgument, BadNumber, BadKeys}
-use Rattle.script.specs.Words.{nth}
-use Rattle.script.specs.Numbers.{numberOf}
-use Rattle.script.specs.Hex.{andThen, hexPair}
+use Rattle.text.specs.Words.{nth}
+use Rattle.text.specs.Numbers.{numberOf}
+use Rattle.text.specs.Hex.{andThen, hexPair}
 
 -- what f makes of a value, or the problem that stands in its place
 abbrev pub next : {X Y : Type 0} → Result X Problem → (X → Result Y Problem) → Result Y Problem

@@ -18,8 +18,8 @@ use Rattle.script.specs.declared.call.Kind.{Kind}
 use Rattle.script.specs.declared.call.Kind.the-variants.{Switches, Schedule, Matrix}
 use Rattle.script.specs.declared.call.Problem.{Problem}
 use Rattle.script.specs.declared.call.Problem.the-variants.{UnknownCall, UnknownBoard}
-use Rattle.script.specs.Words.{words, nth}
-use Rattle.script.specs.Hex.{andThen}
+use Rattle.text.specs.Words.{words, nth}
+use Rattle.text.specs.Hex.{andThen}
 use Rattle.script.specs.Names.{nameOf}
 use Rattle.script.specs.Arguments.{next, orElse, wordAt, numberAt, readingAt, outputsAt, keysAt, endAt}
 

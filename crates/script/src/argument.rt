@@ -2,12 +2,12 @@
 ghost use mathlib.Core.Path.{_≡_};
 ghost use Prim.Native.Nat.{_≤_};
 ghost use Rattle.std.specs.Results.{Cases};
-ghost use Rattle.script.specs.Words.{words};
+ghost use Rattle.text.specs.Words.{words};
 ghost use Rattle.script.specs.Arguments.{numberAt, byteAt, readingAt, outputsAt, keysOf, keysAt, endAt};
 use crate::call::Problem;
-use crate::hex::hex_pair;
-use crate::number::number;
-use crate::word::word_at;
+use text::hex::hex_pair;
+use text::number::number;
+use text::word::word_at;
 use board::reading::Outputs;
 use board::reading::Reading;
 

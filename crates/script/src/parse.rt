@@ -1,6 +1,6 @@
 // What each line of a script asks for.
 ghost use mathlib.Core.Path.{_≡_};
-ghost use Rattle.script.specs.Words.{words};
+ghost use Rattle.text.specs.Words.{words};
 ghost use Rattle.script.specs.Calls.{switchesOf, scheduleOf, matrixOf, boardOf, advanceOf, tellOf, listOf, callOf, entryOf, named};
 use crate::argument::end_at;
 use crate::argument::keys_at;
@@ -14,7 +14,7 @@ use crate::call::Purpose;
 use crate::call::Question;
 use crate::name::Name;
 use crate::name::name_of;
-use crate::word::word_at;
+use text::word::word_at;
 use board::schedule::Entry;
 
 fn switches(line: &str) -> Result<Kind, Problem>

@@ -5,7 +5,7 @@ ghost use Prim.Native.Nat.{_<_};
 ghost use Rattle.std.specs.Options.{mapped, Cases};
 ghost use Rattle.std.specs.Of.Vec.{vec-items};
 ghost use Rattle.std.specs.Vec.{made};
-ghost use Rattle.script.specs.Hex.{hexDigit, hexPair, pairsAfter, bytesOf};
+ghost use Rattle.text.specs.Hex.{hexDigit, hexPair, pairsAfter, bytesOf};
 use std::alloc::AllocError;
 use std::alloc::Global;
 
@@ -22,7 +22,7 @@ fn hex_digit(byte: u8) -> Option<u8>
 }
 
 // The byte that two digits write.
-pub(crate) fn hex_pair(high: u8, low: u8) -> Option<u8>
+pub fn hex_pair(high: u8, low: u8) -> Option<u8>
     ensures { λ r. ⌜ r ≡ hexPair high low ⌝ }
 {
     let Some(high) = hex_digit(high) else {

@@ -13,7 +13,7 @@ use lib.Chars.{codes}
 use lib.Dec.{eqb}
 use Rattle.std.specs.shelf.Text.{sameBytes}
 use Rattle.std.proofs.shelf.Equals.{sameBytes-decides}
-use Rattle.script.specs.Hex.{andThen, hexPair, pairsAfter, bytesOf}
+use Rattle.text.specs.Hex.{andThen, hexPair, pairsAfter, bytesOf}
 
 -- two elements stand before the rest
 two-more : (xs : List ℕ) (i : ℕ) → 2 * i + 1 < length xs → drop (2 * i) xs ≡ getD xs (2 * i) 0 ∷ (getD xs (2 * i + 1) 0 ∷ drop (2 * (i + 1)) xs)

@@ -5,9 +5,9 @@ use borrow.Author.Needs.{needs}
 use lib.Dec.{lit<}
 use Rattle.std.proofs.shelf.Patterns.{split-parts}
 use Rattle.std.specs.declared.option.Option.the-variants.{Some, None}
-use Rattle.script.specs.Words.{words, nth}
-use Rattle.script.proofs.Splits.{first-of-cut, first-of-whole, later-of-cut, later-of-whole}
-use Rattle.script.proofs.word.word_at.Needs as need
+use Rattle.text.specs.Words.{words, nth}
+use Rattle.text.proofs.Splits.{first-of-cut, first-of-whole, later-of-cut, later-of-whole}
+use Rattle.text.proofs.word.word_at.Needs as need
 
 pub returns-in-rest : need.returns-in-rest
 returns-in-rest c =

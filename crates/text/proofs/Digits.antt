@@ -9,7 +9,7 @@ use borrow.Author.Tests.{le-leb, lt-leb}
 use Rattle.std.specs.declared.option.Option.the-variants.{Some, None}
 use Rattle.std.proofs.shelf.Lists.{drop-more}
 use native.Mathlib.Omega.{arith}
-use Rattle.script.specs.Numbers.{isDigit, appended, digitsAfter, numberOf}
+use Rattle.text.specs.Numbers.{isDigit, appended, digitsAfter, numberOf}
 
 module _ (digits : List ℕ) (i limit value : ℕ) (h : i < length digits) where
   pub digit-more : isDigit (getD digits i 0) ≡ true → appended value (getD digits i 0) ≤ limit → digitsAfter limit value (drop i digits) ≡ digitsAfter limit (appended value (getD digits i 0)) (drop (i + 1) digits)

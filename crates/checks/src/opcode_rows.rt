@@ -1,5 +1,7 @@
 // Known rows, and known lines of a listing.
-use crate::*;
+use opcodes::OperandDisplay;
+use opcodes::RowDisplay;
+use opcodes::row;
 use std::alloc::Global;
 use std::test::*;
 

@@ -4,9 +4,9 @@ use native.Mathlib.Omega.{arith}
 use lib.ListN.{length, drop, length-drop}
 use Rattle.std.specs.Of.Vec.{vec-items}
 use Rattle.std.specs.declared.option.Option.the-variants.{Some, None}
-use Rattle.script.specs.Hex.{pairsAfter}
-use Rattle.script.proofs.Pairs.{pair-next, pairs-end, pairs-odd}
-use Rattle.script.proofs.hex.pairs_of.Needs as need
+use Rattle.text.specs.Hex.{pairsAfter}
+use Rattle.text.proofs.Pairs.{pair-next, pairs-end, pairs-odd}
+use Rattle.text.proofs.hex.pairs_of.Needs as need
 
 pub returns-in-rest : need.returns-in-rest
 returns-in-rest c =

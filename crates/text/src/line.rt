@@ -1,6 +1,6 @@
 // The lines of a script.
 ghost use mathlib.Core.Path.{_≡_};
-ghost use Rattle.script.specs.Lines.{contentOf, skipped};
+ghost use Rattle.text.specs.Lines.{contentOf, skipped};
 
 // A line without the newline, or carriage return and newline, at its end.
 pub fn content(line: &[u8]) -> &[u8]

@@ -2,7 +2,7 @@
 ghost use mathlib.Core.Path.{_≡_};
 ghost use denote.Ref.{now as pointee};
 ghost use Rattle.std.specs.Options.{mapped};
-ghost use Rattle.script.specs.Words.{words, nth};
+ghost use Rattle.text.specs.Words.{words, nth};
 
 // The word at this index, counted from 0.
 pub fn word_at(line: &str, index: usize) -> Option<&str>

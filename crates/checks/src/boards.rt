@@ -1,11 +1,11 @@
 // The three kinds of board on small cases.
-use crate::any::*;
-use crate::contract::Board;
-use crate::matrix::*;
-use crate::reading::*;
-use crate::refused::*;
-use crate::schedule::*;
-use crate::switches::*;
+use board::any::*;
+use board::contract::Board;
+use board::matrix::*;
+use board::reading::*;
+use board::refused::*;
+use board::schedule::*;
+use board::switches::*;
 use std::test::*;
 
 // Port A driven at this level, port B open, IRQ at 1.

@@ -4,9 +4,9 @@ use mathlib.Core.List.{[]}
 use Prim.Native.Nat.{ℕ}
 use native.Mathlib.Omega.{arith}
 use Rattle.std.proofs.shelf.Results.{made-weaker}
-use Rattle.script.specs.Hex.{pairsAfter}
-use Rattle.script.proofs.Pairs.{empty-word, pair-word}
-use Rattle.script.proofs.hex.bytes_of.Needs as need
+use Rattle.text.specs.Hex.{pairsAfter}
+use Rattle.text.proofs.Pairs.{empty-word, pair-word}
+use Rattle.text.proofs.hex.bytes_of.Needs as need
 
 apart : false ≡ true → ⊥
 apart e = let z : _≡_ {A = ℕ} 0 1 = cc in omega arith

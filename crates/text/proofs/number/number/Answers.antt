@@ -7,9 +7,9 @@ use lib.ListN.{length, getD}
 use Rattle.std.specs.declared.option.Option.{Option}
 use Rattle.std.specs.declared.option.Option.the-variants.{Some, None}
 use Rattle.std.proofs.shelf.Lists.{at-drop-all}
-use Rattle.script.specs.Numbers.{numberOf, digitsAfter, appended}
-use Rattle.script.proofs.Digits.{digit-more, no-digit, too-large, of-some}
-use Rattle.script.proofs.number.number.Needs as need
+use Rattle.text.specs.Numbers.{numberOf, digitsAfter, appended}
+use Rattle.text.proofs.Digits.{digit-more, no-digit, too-large, of-some}
+use Rattle.text.proofs.number.number.Needs as need
 
 pub returns-then-not-is-digit : need.returns-then-not-is-digit
 returns-then-not-is-digit c =

@@ -2,7 +2,7 @@
 ghost use mathlib.Core.Path.{_≡_};
 ghost use Prim.Native.Nat.{_≤_};
 ghost use Rattle.std.specs.Options.{Cases};
-ghost use Rattle.script.specs.Numbers.{numberOf, isDigit};
+ghost use Rattle.text.specs.Numbers.{numberOf, isDigit};
 
 fn is_digit(byte: u8) -> bool
     ensures { λ r. ⌜ r ≡ isDigit byte ⌝ }
@@ -11,7 +11,7 @@ fn is_digit(byte: u8) -> bool
 }
 
 // The number that the word writes in decimal digits, if it is not above the limit.
-pub(crate) fn number(word: &str, limit: u64) -> Option<u64>
+pub fn number(word: &str, limit: u64) -> Option<u64>
     ensures is { λ r. ⌜ r ≡ numberOf limit (now (word .entry)) ⌝ }
     ensures within { λ r. ⌜ Cases r (Unit {0}) (λ n. n ≤ limit) ⌝ }
 {

@@ -9,7 +9,7 @@ use lib.ListN.{length, getD}
 use borrow.Author.Tests.{ne-eqb}
 use Rattle.std.specs.declared.option.Option.{Option}
 use Rattle.std.specs.declared.option.Option.the-variants.{Some, None}
-use Rattle.script.specs.Words.{words, longer, nth}
+use Rattle.text.specs.Words.{words, longer, nth}
 
 abbrev pub NoSpace : List ℕ → Type 0
 NoSpace xs = (i : ℕ) → i < length xs → getD xs i 0 ≡ 32 → ⊥
