@@ -11,10 +11,12 @@ use Rattle.std.proofs.shelf.Tests.{ltb-true, leb-true, le-leb, lt-leb, and-part
 use Rattle.std.proofs.shelf.Lists.{drop-more, drop-all}
 use Rattle.std.specs.declared.option.Option.{Option}
 use Rattle.std.specs.declared.option.Option.the-variants.{Some, None}
+use denote.Ref.{RefT, now}
+use Rattle.std.specs.declared.result.Result.the-variants.{Ok}
 use Rattle.board.specs.declared.reading.Reading.{Reading}
 use Rattle.board.specs.declared.schedule.Entry.{Entry}
 use Rattle.board.specs.Reading.{ranged, InRange, onPins}
-use Rattle.board.specs.Schedule.{cycleLimit, moment, readingAt, passed, lastAt, hasCome, calmAfter, calmBefore, good, badFrom, firstBad}
+use Rattle.board.specs.Schedule.{cycleLimit, moment, readingAt, passed, lastAt, hasCome, calmAfter, calmBefore, good, badFrom, firstBad, firstReading, scheduleOf}
 use Rattle.board.proofs.Pins.{pins-same}
 
 -- what a read past a list's end would give
@@ -140,3 +142,11 @@ from-first (e ∷ es) h d n =
 pub some-first : (es : List Entry) → 0 < length es → firstBad es ≡ badFrom 0 0 1 es
 some-first [] h = absurd (omega arith)
 some-first (e ∷ es) h = refl
+
+first-is : (es : List Entry) → getD es 0 noEntry .reading ≡ firstReading es
+first-is [] = refl
+first-is (e ∷ es) = refl
+
+-- a list with no bad entry makes a schedule
+pub of-good : (entries : RefT (List Entry)) → firstBad (now entries) ≡ None → Ok (record { entries = entries; at = 0; next = 1; current = getD (now entries) 0 noEntry .reading }) ≡ scheduleOf entries
+of-good entries h = rw (h, first-is (now entries))

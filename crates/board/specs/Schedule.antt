@@ -4,13 +4,16 @@ use mathlib.Core.List.{List, [], _∷_}
 use Prim.Native.Nat.{ℕ, suc, _+_, _-_, _^_, min}
 use lib.Dec.{leb, ltb}
 use lib.ListN.{drop}
-use denote.Ref.{now}
+use denote.Ref.{RefT, now}
 use Rattle.std.specs.declared.option.Option.{Option}
 use Rattle.std.specs.declared.option.Option.the-variants.{Some, None}
 use Rattle.board.specs.declared.reading.Reading.{Reading}
 use Rattle.board.specs.declared.reading.Outputs.{Outputs}
 use Rattle.board.specs.declared.schedule.Entry.{Entry}
 use Rattle.board.specs.declared.schedule.Schedule.{Schedule}
+use Rattle.std.specs.declared.result.Result.{Result}
+use Rattle.std.specs.declared.result.Result.the-variants.{Ok, Err}
+use Rattle.board.specs.declared.refused.BadEntry.{BadEntry}
 use Rattle.board.specs.Reading.{ranged, onPins}
 
 -- every entry's cycle is below this
@@ -87,3 +90,17 @@ calmBefore t (e ∷ es) = calmAfter t e
 -- for how many cycles it says that it shows no other entry
 abbrev pub scheduleQuiet : Schedule → ℕ
 scheduleQuiet s = calmBefore (s .at) (ahead s)
+
+-- the reading of the first entry
+abbrev pub firstReading : List Entry → Reading
+firstReading [] = record { «level_a» = 0; «open_a» = 0; «level_b» = 0; «open_b» = 0; irq = 0 }
+firstReading (e ∷ es) = e .reading
+
+-- at cycle 0 the first entry has come; a list with a bad entry is refused there
+abbrev pub scheduleWith : Option ℕ → RefT (List Entry) → Result Schedule BadEntry
+scheduleWith None entries = Ok (record { entries = entries; at = 0; next = 1; current = firstReading (now entries) })
+scheduleWith (Some i) entries = Err (record { index = i })
+
+-- the schedule of these entries
+abbrev pub scheduleOf : RefT (List Entry) → Result Schedule BadEntry
+scheduleOf entries = scheduleWith (firstBad (now entries)) entries

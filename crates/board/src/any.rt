@@ -74,7 +74,7 @@ pub impl<'a> Board for AnyBoard<'a> as BoardByKind {
     // What its kind answers.
     fn quiet(&self) -> u16
         ensures still { λ q. ⌜ ((k : ℕ) → k ≤ q → anyShows (now (self .entry)) k ≡ anyShows (now (self .entry)) 0) ⌝ }
-        ensures most { λ q. ⌜ q ≡ anyQuiet (now (self .entry)) ⌝ }
+        ensures answer { λ q. ⌜ q ≡ anyQuiet (now (self .entry)) ⌝ }
     {
         match self {
             AnyBoard::Switches(board) => board.quiet(),

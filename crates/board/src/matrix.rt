@@ -73,7 +73,7 @@ pub impl Board for Matrix as MatrixBoard {
     // The most cycles there are.
     fn quiet(&self) -> u16
         ensures still { λ q. ⌜ ((k : ℕ) → k ≤ q → matrixShows (now (self .entry)) k ≡ matrixShows (now (self .entry)) 0) ⌝ }
-        ensures most { λ q. ⌜ q ≡ 65535 ⌝ }
+        ensures answer { λ q. ⌜ q ≡ 65535 ⌝ }
     {
         u16::MAX
     }

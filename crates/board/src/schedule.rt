@@ -2,9 +2,8 @@
 ghost use mathlib.Core.Path.{_≡_};
 ghost use Prim.Native.Nat.{ℕ, _+_, _≤_};
 ghost use lib.ListN.{drop};
-ghost use Rattle.std.specs.declared.option.Option.the-variants.{Some, None};
-ghost use Rattle.std.specs.declared.result.Result.the-variants.{Ok, Err};
-ghost use Rattle.board.specs.Schedule.{hasCome, calmAfter, good, badFrom, firstBad, passed, readingAt, lastAt, scheduleShows, scheduleAdvanced, scheduleTold, scheduleQuiet};
+ghost use Rattle.std.specs.Vec.{made};
+ghost use Rattle.board.specs.Schedule.{hasCome, calmAfter, good, badFrom, firstBad, passed, readingAt, lastAt, scheduleShows, scheduleAdvanced, scheduleTold, scheduleQuiet, scheduleOf};
 ghost use Rattle.board.specs.LawsKept.{scheduleLaws};
 use crate::contract::Board;
 use crate::reading::Outputs;
@@ -88,10 +87,8 @@ fn first_bad(entries: &[Entry]) -> Option<usize>
 impl<'a> Schedule<'a> {
     // The schedule of these entries, at cycle 0; refused at the first bad entry, and at 0 where there is none at all.
     pub fn new(entries: &'a [Entry]) -> Result<Schedule<'a>, BadEntry>
-        ensures { λ r. ⌜ elim r [
-          | Ok s ↦ (firstBad (now (entries .entry)) ≡ None) × ((d : Reading) (n : ℕ) → scheduleShows s n ≡ lastAt d (now (entries .entry)) n)
-          | Err e ↦ firstBad (now (entries .entry)) ≡ Some (e .index)
-        ] ⌝ }
+        ensures answer { λ r. ⌜ r ≡ scheduleOf (entries .entry) ⌝ }
+        ensures shown { λ r. ⌜ made r (λ s. (d : Reading) (n : ℕ) → scheduleShows s n ≡ lastAt d (now (entries .entry)) n) ⌝ }
     {
         let [first, ..] = entries else {
             return Err(BadEntry { index: 0 });
@@ -138,7 +135,7 @@ pub impl<'a> Board for Schedule<'a> as ScheduleBoard {
     // The cycles before the next entry comes, as far as the answer reaches.
     fn quiet(&self) -> u16
         ensures still { λ q. ⌜ ((k : ℕ) → k ≤ q → scheduleShows (now (self .entry)) k ≡ scheduleShows (now (self .entry)) 0) ⌝ }
-        ensures most { λ q. ⌜ q ≡ scheduleQuiet (now (self .entry)) ⌝ }
+        ensures answer { λ q. ⌜ q ≡ scheduleQuiet (now (self .entry)) ⌝ }
     {
         match self.entries.get(self.next) {
             Some(entry) => entry.calm_after(self.at),

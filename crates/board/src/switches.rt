@@ -47,7 +47,7 @@ pub impl Board for Switches as SwitchesBoard {
     // The most cycles there are.
     fn quiet(&self) -> u16
         ensures still { λ q. ⌜ ((k : ℕ) → k ≤ q → switchesShows (now (self .entry)) k ≡ switchesShows (now (self .entry)) 0) ⌝ }
-        ensures most { λ q. ⌜ q ≡ 65535 ⌝ }
+        ensures answer { λ q. ⌜ q ≡ 65535 ⌝ }
     {
         u16::MAX
     }

@@ -37,7 +37,7 @@ fn instructions_have_their_operands(rt: LibcRuntime) -> Result<(), Fail> {
     let none = [0x9E, 0x42, 0x00, 0x00];
     check_eq(
         line_from(heap, &none, 0x300)?.as_str(),
-        "0300  9E        FCB $9E",
+        "0300  9E        FCB $9E               -",
     )?;
     check_eq(
         line_from(heap, &none, 0x301)?.as_str(),

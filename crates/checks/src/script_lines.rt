@@ -1,20 +1,20 @@
 // What lines of a script ask for.
+use script::call::BoardCall;
 use script::call::Call;
 use script::call::Kind;
 use script::call::Problem;
 use script::call::ProblemDebug;
 use script::call::ProblemPartialEq;
 use script::call::Purpose;
-use script::call::Question;
-use text::hex::bytes_of;
-use text::line::content;
-use text::line::is_skipped;
 use script::parse::parse_call;
 use script::parse::parse_entry;
-use text::word::word_at;
 use std::alloc::AllocError;
 use std::alloc::Global;
 use std::test::*;
+use text::hex::bytes_of;
+use text::line::content;
+use text::line::is_skipped;
+use text::word::word_at;
 
 // Why the line is no call.
 fn problem(line: &str) -> Option<Problem> {
@@ -26,11 +26,11 @@ fn problem(line: &str) -> Option<Problem> {
 
 #[test]
 fn calls_are_told_by_name() -> Result<(), Fail> {
-    check(matches!(parse_call("bshow"), Ok(Call::Ask(Question::Show))))?;
-    check(matches!(parse_call("bquiet"), Ok(Call::Ask(Question::Quiet))))?;
+    check(matches!(parse_call("bshow"), Ok(Call::OfBoard(BoardCall::Show))))?;
+    check(matches!(parse_call("bquiet"), Ok(Call::OfBoard(BoardCall::Quiet))))?;
     check(matches!(
         parse_call("badvance 65535"),
-        Ok(Call::Ask(Question::Advance(65535)))
+        Ok(Call::OfBoard(BoardCall::Advance(65535)))
     ))?;
     check(matches!(parse_call("list -"), Ok(Call::Listing)))?;
     check(matches!(parse_call("step"), Ok(Call::NotOffered)))?;

@@ -8,8 +8,8 @@ use Rattle.board.specs.declared.refused.BadEntry.{BadEntry}
 use Rattle.board.specs.Any.{anyShows, anyAdvanced, anyTold, anyQuiet}
 use Rattle.script.specs.declared.call.Purpose.{Purpose}
 use Rattle.script.specs.declared.call.Purpose.the-variants.{NewMachine, Replacement, Alone}
-use Rattle.script.specs.declared.call.Question.{Question}
-use Rattle.script.specs.declared.call.Question.the-variants.{Show, Advance, Tell, Quiet}
+use Rattle.script.specs.declared.call.BoardCall.{BoardCall}
+use Rattle.script.specs.declared.call.BoardCall.the-variants.{Show, Advance, Tell, Quiet}
 use Rattle.console.specs.declared.answer.Failure.the-variants.{NotOffered, NoBoard}
 use Rattle.console.specs.declared.answer.Answer.{Answer}
 use Rattle.console.specs.declared.answer.Answer.the-variants.{Done, Refused, Shown, Quiet as QuietFor, Failed}
@@ -31,24 +31,24 @@ placedAnswer NewMachine made = madeAnswer made
 placedAnswer Replacement made = Failed NotOffered
 placedAnswer Alone made = madeAnswer made
 
--- the board after a question
-abbrev pub askedOf : Question → AnyBoard → AnyBoard
-askedOf Show board = board
-askedOf (Advance n) board = anyAdvanced board n
-askedOf (Tell outputs) board = anyTold board outputs
-askedOf Quiet board = board
+-- the board after a call
+abbrev pub boardAfter : BoardCall → AnyBoard → AnyBoard
+boardAfter Show board = board
+boardAfter (Advance n) board = anyAdvanced board n
+boardAfter (Tell outputs) board = anyTold board outputs
+boardAfter Quiet board = board
 
-abbrev pub asked : Question → Option AnyBoard → Option AnyBoard
-asked question None = None
-asked question (Some board) = Some (askedOf question board)
+abbrev pub aloneAfter : BoardCall → Option AnyBoard → Option AnyBoard
+aloneAfter call None = None
+aloneAfter call (Some board) = Some (boardAfter call board)
 
-abbrev pub answerOf : Question → AnyBoard → Answer
+abbrev pub answerOf : BoardCall → AnyBoard → Answer
 answerOf Show board = Shown (anyShows board 0)
 answerOf (Advance n) board = Done
 answerOf (Tell outputs) board = Done
 answerOf Quiet board = QuietFor (anyQuiet board)
 
--- the answer to a question, which needs a board
-abbrev pub answered : Question → Option AnyBoard → Answer
-answered question None = Failed NoBoard
-answered question (Some board) = answerOf question board
+-- the answer to a call, which needs a board
+abbrev pub answered : BoardCall → Option AnyBoard → Answer
+answered call None = Failed NoBoard
+answered call (Some board) = answerOf call board

@@ -20,14 +20,14 @@ use Rattle.script.specs.declared.call.Purpose.{Purpose}
 use Rattle.script.specs.declared.call.Kind.{Kind}
 use Rattle.script.specs.declared.call.Kind.the-variants.{Switches, Schedule, Matrix}
 use Rattle.script.specs.declared.call.Call.{Call}
-use Rattle.script.specs.declared.call.Call.the-variants.{Make, Ask, Listing as ListCall, NotOffered as NotOfferedCall}
+use Rattle.script.specs.declared.call.Call.the-variants.{Make, OfBoard, Listing as ListCall, NotOffered as NotOfferedCall}
 use Rattle.console.specs.declared.answer.Failure.the-variants.{NotOffered, BadEntry as BadEntryLine, MissingEntries, Line}
 use Rattle.console.specs.declared.answer.Answer.the-variants.{Failed}
 use Rattle.console.specs.declared.session.Waiting.{Waiting}
 use Rattle.console.specs.declared.session.Session.{Session}
 use Rattle.console.specs.declared.session.Reply.{Reply}
 use Rattle.console.specs.declared.session.Reply.the-variants.{Nothing, Said, Listing}
-use Rattle.console.specs.Alone.{placed, placedAnswer, asked, answered}
+use Rattle.console.specs.Alone.{placed, placedAnswer, aloneAfter, answered}
 use Rattle.console.specs.Boards.{switchesMade, matrixMade, ScheduleMade}
 
 abbrev pub fresh : Session
@@ -53,7 +53,7 @@ AllRead false w old reply new = (board : Result AnyBoard BadEntry) × ScheduleMa
 
 -- with entries still to come the session waits for them
 abbrev pub ReadWith : ℕ → Waiting → Session → Reply → Session → Type 0
-ReadWith zero w old reply new = AllRead (w .unread) w old reply new
+ReadWith zero w old reply new = AllRead (w .«bad_line») w old reply new
 ReadWith (suc n) w old reply new = (reply ≡ Nothing) × (new ≡ record { alone = old .alone; waiting = Some w })
 
 abbrev pub Read : Waiting → Session → Reply → Session → Type 0
@@ -62,7 +62,7 @@ Read w old reply new = ReadWith (w .left) w old reply new
 -- a schedule of so many entries is begun, with none read yet
 abbrev pub Begun : Purpose → ℕ → Session → Reply → Session → Type 0
 Begun purpose n old reply new =
-    (w : Waiting) × (w .purpose ≡ purpose) × (w .left ≡ n) × (vec-items (w .entries) ≡ []) × (w .unread ≡ false) × Read w old reply new
+    (w : Waiting) × (w .purpose ≡ purpose) × (w .left ≡ n) × (vec-items (w .entries) ≡ []) × (w .«bad_line» ≡ false) × Read w old reply new
 
 -- a call that makes a board
 abbrev pub MadeOf : Purpose → Kind → Session → Reply → Session → Type 0
@@ -75,18 +75,18 @@ abbrev pub Called : Result Call Problem → Session → Reply → Session → Ty
 Called (Err problem) old reply new = (reply ≡ Said (Failed (Line problem))) × (new ≡ old)
 Called (Ok NotOfferedCall) old reply new = (reply ≡ Said (Failed NotOffered)) × (new ≡ old)
 Called (Ok ListCall) old reply new = (reply ≡ Listing) × (new ≡ old)
-Called (Ok (Ask question)) old reply new = (reply ≡ Said (answered question (old .alone))) × (new ≡ withAlone old (asked question (old .alone)))
+Called (Ok (OfBoard call)) old reply new = (reply ≡ Said (answered call (old .alone))) × (new ≡ withAlone old (aloneAfter call (old .alone)))
 Called (Ok (Make purpose kind)) old reply new = MadeOf purpose kind old reply new
 
 -- a line read while entries are awaited: its entry comes last, and a line that is none is noted
-pub record Lengthened (w : Waiting) (entries : List Entry) (unread : Bool) (new : Waiting) : Type 0 where
+pub record Lengthened (w : Waiting) (entries : List Entry) (bad : Bool) (new : Waiting) : Type 0 where
   pub purpose : new .purpose ≡ w .purpose
   pub left : new .left ≡ w .left - 1
   pub entries-read : vec-items (new .entries) ≡ entries
-  pub unread-seen : new .unread ≡ unread
+  pub bad-seen : new .«bad_line» ≡ bad
 
 abbrev pub WithLine : Result Entry Problem → Waiting → Waiting → Type 0
-WithLine (Ok e) w new = Lengthened w (vec-items (w .entries) ++ (e ∷ [])) (w .unread) new
+WithLine (Ok e) w new = Lengthened w (vec-items (w .entries) ++ (e ∷ [])) (w .«bad_line») new
 WithLine (Err problem) w new = Lengthened w (vec-items (w .entries)) true new
 
 abbrev pub EntryRead : Result Entry Problem → Waiting → Session → Reply → Session → Type 0

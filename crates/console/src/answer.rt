@@ -4,6 +4,7 @@ ghost use mathlib.Core.Path.{_≡_};
 ghost use Rattle.console.specs.Answers.{failureText, answerText};
 use board::reading::Reading;
 use board::refused::BadEntry;
+use part::image::ImageRefused;
 use script::call::Problem;
 use std::fmt;
 
@@ -14,7 +15,6 @@ pub enum Failure {
     NoBoard,
     BadEntry,
     MissingEntries,
-    NotText,
     BadBytes,
     UnreadFile,
     // the line is no call
@@ -26,6 +26,10 @@ pub enum Answer {
     Done,
     // a board was not made
     Refused(BadEntry),
+    // a string of bytes is no image
+    NoImage(ImageRefused),
+    // so many lines were listed
+    Listed(usize),
     Shown(Reading),
     Quiet(u16),
     Failed(Failure),
@@ -41,7 +45,6 @@ impl Failure {
             Failure::NoBoard => "no board",
             Failure::BadEntry => "bad entry",
             Failure::MissingEntries => "missing entries",
-            Failure::NotText => "not text",
             Failure::BadBytes => "bad bytes",
             Failure::UnreadFile => "cannot read file",
             Failure::Line(problem) => problem.reason(),
@@ -56,6 +59,14 @@ pub impl fmt::Display for Answer as AnswerDisplay {
         match *self {
             Answer::Done => f.write_str("ok"),
             Answer::Refused(bad) => write!(f, "refused {} {}", bad.refusal().number(), bad.index),
+            Answer::NoImage(refused) => {
+                let number = refused.refusal().number();
+                match refused {
+                    ImageRefused::Length => write!(f, "refused {number}"),
+                    ImageRefused::Byte(address) => write!(f, "refused {number} {address}"),
+                }
+            }
+            Answer::Listed(lines) => write!(f, "ok {lines}"),
             Answer::Shown(r) => {
                 write!(
                     f,

@@ -18,10 +18,7 @@ pub type Made = Result<AnyBoard<'static>, BadEntry>;
 pub fn switches(reading: Reading) -> Made
     ensures { λ r. ⌜ r ≡ switchesMade reading ⌝ }
 {
-    match Switches::new(reading) {
-        Ok(board) => Ok(AnyBoard::Switches(board)),
-        Err(bad) => Err(bad),
-    }
+    Ok(AnyBoard::Switches(Switches::new(reading)?))
 }
 
 pub fn matrix(keys: u16) -> Made

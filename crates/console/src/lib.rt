@@ -1,20 +1,21 @@
 // The bench program but for its entry point: reads a script and answers each call, line by line.
+ghost use mathlib.Core.Path.{_≡_};
+ghost use Rattle.std.specs.Text.{Utf8};
+
 mod alone;
 mod answer;
 mod boards;
 mod image;
 mod session;
 
-use answer::Answer;
 use answer::AnswerDisplay;
-use answer::Failure;
 use image::list;
-use text::line::content;
 use session::Reply;
 use session::Session;
 use std::error::AnyError;
 use std::io::BufRead;
 use std::io::BufReader;
+use text::line::content;
 
 // Prints what a line calls for.
 fn print(rt: &LibcRuntime, line: &str, reply: Reply) -> Result<(), AnyError> {
@@ -25,7 +26,20 @@ fn print(rt: &LibcRuntime, line: &str, reply: Reply) -> Result<(), AnyError> {
     }
 }
 
-// Answers the script on standard input, up to its end.
+// The line as text. One that is not UTF-8 is no call and no entry, and stands here as `?`; or it is a remark.
+fn text_of(line: &[u8]) -> &str
+    ensures { λ r. ⌜ (Utf8 (now (line .entry)) → now r ≡ now (line .entry)) ⌝ }
+{
+    match std::str::from_utf8(line) {
+        Ok(text) => text,
+        Err(_) => match line {
+            [b'#', ..] => "#",
+            _ => "?",
+        },
+    }
+}
+
+// Answers the script on standard input, up to its end. Nothing says that an input ends, so the lines are counted.
 pub fn run(rt: &LibcRuntime) -> Result<(), AnyError> {
     let mut input = BufReader::new(rt.stdin());
     let mut session = Session::new();
@@ -35,10 +49,9 @@ pub fn run(rt: &LibcRuntime) -> Result<(), AnyError> {
         if input.read_until(b'\n', &mut bytes)? == 0 {
             break;
         }
-        match std::str::from_utf8(content(bytes.as_slice())) {
-            Ok(line) => print(rt, line, session.line(rt.alloc(), line)?)?,
-            Err(_) => rt.println(Answer::Failed(Failure::NotText))?,
-        }
+        let line = text_of(content(bytes.as_slice()));
+        let reply = session.line(rt.alloc(), line)?;
+        print(rt, line, reply)?;
     }
     print(rt, "", session.end())
 }

@@ -4,7 +4,7 @@ ghost use Rattle.std.specs.Vec.{made};
 ghost use Rattle.text.specs.Words.{words};
 ghost use Rattle.script.specs.Calls.{callOf, entryOf};
 ghost use Rattle.console.specs.Session.{fresh, endReply, Read, Begun, MadeOf, Called, WithLine, EntryRead, LineRead};
-use crate::alone::ask;
+use crate::alone::call_board;
 use crate::alone::place;
 use crate::answer::Answer;
 use crate::answer::Failure;
@@ -16,11 +16,11 @@ use board::schedule::Entry;
 use script::call::Call;
 use script::call::Kind;
 use script::call::Purpose;
-use text::line::is_skipped;
 use script::parse::parse_call;
 use script::parse::parse_entry;
 use std::alloc::AllocError;
 use std::alloc::Global;
+use text::line::is_skipped;
 
 // A schedule whose entries follow: how many are still to come, and whether a line was no entry.
 #[derive(Drop)]
@@ -28,7 +28,7 @@ pub struct Waiting {
     purpose: Purpose,
     left: u32,
     entries: Vec<Entry>,
-    unread: bool,
+    bad_line: bool,
 }
 
 #[derive(Drop)]
@@ -54,18 +54,18 @@ impl Waiting {
             purpose,
             left,
             mut entries,
-            mut unread,
+            mut bad_line,
         } = self;
         match parse_entry(line) {
             Ok(entry) => entries.push(entry)?,
-            Err(_) => unread = true,
+            Err(_) => bad_line = true,
         }
         let left = left.saturating_sub(1);
         Ok(Waiting {
             purpose,
             left,
             entries,
-            unread,
+            bad_line,
         })
     }
 }
@@ -123,9 +123,9 @@ impl Session {
             purpose,
             left: _,
             entries,
-            unread,
+            bad_line,
         } = waiting;
-        if unread {
+        if bad_line {
             return Ok(Reply::Said(Answer::Failed(Failure::BadEntry)));
         }
         let board = schedule(heap, entries)?;
@@ -143,7 +143,7 @@ impl Session {
                 purpose,
                 left,
                 entries,
-                unread: false,
+                bad_line: false,
             },
         )
     }
@@ -168,7 +168,7 @@ impl Session {
             match parse_call(line) {
                 Ok(Call::Make(purpose, kind)) => return self.make(heap, purpose, kind),
                 Ok(Call::Listing) => Reply::Listing,
-                Ok(Call::Ask(question)) => Reply::Said(ask(&mut self.alone, question)),
+                Ok(Call::OfBoard(call)) => Reply::Said(call_board(&mut self.alone, call)),
                 Ok(Call::NotOffered) => Reply::Said(Answer::Failed(Failure::NotOffered)),
                 Err(problem) => Reply::Said(Answer::Failed(Failure::Line(problem))),
             },

@@ -1,5 +1,5 @@
 -- One line of a listing: what stands at an address.
-use Prim.Native.Nat.{ℕ, _+_, _-_, min}
+use Prim.Native.Nat.{ℕ, _+_, _%_}
 use mathlib.Core.Bool.{cond}
 use mathlib.Core.List.{List}
 use lib.Dec.{eqb}
@@ -11,24 +11,20 @@ use Rattle.opcodes.specs.Map.{rowOf}
 use Rattle.opcodes.specs.declared.operand.Operand.{Operand}
 use Rattle.opcodes.specs.declared.operand.Operand.the-variants.{Nothing}
 use Rattle.opcodes.specs.Operand.{operandOf}
-use Rattle.part.specs.Layout.{branchTarget}
+use Rattle.part.specs.Layout.{addressSpace, branchTarget}
 use Rattle.listing.specs.declared.line.Line.{Line}
 
--- the byte at this address; past the end of the image all bytes are 0
+-- the byte at this address, modulo the address space; past the end of the image all bytes are 0
 abbrev pub byteAt : List ℕ → ℕ → ℕ
-byteAt image address = getD image address 0
-
--- so many addresses on, at most the last that 16 bits hold
-abbrev pub after : ℕ → ℕ → ℕ
-after address n = min (address + n) 0xffff
+byteAt image address = getD image (address % addressSpace) 0
 
 abbrev pub lineAt : List ℕ → ℕ → Line
 lineAt image address =
     record {
       address = address;
       code = byteAt image address;
-      first = byteAt image (after address 1);
-      second = byteAt image (after address 2);
+      first = byteAt image (address + 1);
+      second = byteAt image (address + 2);
       row = rowOf (byteAt image address);
     }
 
@@ -42,7 +38,7 @@ lengthOf l = rowLength (l .row)
 
 -- where a branch of this row goes: its offset is the last byte of the instruction
 abbrev pub targetOf : Line → Row → ℕ
-targetOf l r = branchTarget (after (l .address) (r .length)) (cond (eqb (r .length) 3) (l .second) (l .first))
+targetOf l r = branchTarget (l .address + r .length) (cond (eqb (r .length) 3) (l .second) (l .first))
 
 abbrev pub rowOperand : Line → Option Row → Operand
 rowOperand l (Some r) = operandOf r (l .first) (l .second) (targetOf l r)

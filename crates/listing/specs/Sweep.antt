@@ -1,13 +1,13 @@
 -- Where a listing goes on: it leaves out runs of zeros.
-use Prim.Native.Nat.{ℕ, zero, suc, _-_}
+use Prim.Native.Nat.{ℕ, zero, suc, _+_, _-_}
 use mathlib.Core.Bool.{Bool, cond, _&&_}
-use mathlib.Core.List.{List}
+use mathlib.Core.List.{List, [], _∷_}
 use lib.Dec.{eqb, ltb}
 use Rattle.std.specs.declared.option.Option.{Option}
 use Rattle.std.specs.declared.option.Option.the-variants.{Some, None}
-use Rattle.part.specs.Layout.{epromLast}
+use Rattle.part.specs.Layout.{addressSpace, epromFirst, epromLast}
 use Rattle.listing.specs.declared.line.Line.{Line}
-use Rattle.listing.specs.Line.{byteAt, after, lineAt}
+use Rattle.listing.specs.Line.{byteAt, lengthOf, lineAt}
 
 -- the address past the EPROM
 abbrev pub sweepEnd : ℕ
@@ -16,7 +16,7 @@ sweepEnd = suc epromLast
 -- three zeros stand from this address on
 abbrev pub blank : List ℕ → ℕ → Bool
 blank image address =
-    eqb (byteAt image address) 0 && (eqb (byteAt image (after address 1)) 0 && eqb (byteAt image (after address 2)) 0)
+    eqb (byteAt image address) 0 && (eqb (byteAt image (address + 1)) 0 && eqb (byteAt image (address + 2)) 0)
 
 -- the first address from this one on with a byte that is not 0, at most n places on
 unfoldable pub pastZeros : List ℕ → ℕ → ℕ → ℕ
@@ -30,3 +30,17 @@ resumesAt image address = cond (blank image address) (pastZeros image (sweepEnd 
 -- the next line from this address on, up to the end of the EPROM
 abbrev pub nextLine : List ℕ → ℕ → Option Line
 nextLine image address = cond (ltb (resumesAt image address) sweepEnd) (Some (lineAt image (resumesAt image address))) None
+
+-- a line that is there, and the lines that f gives behind it
+abbrev pub followed : Option Line → (Line → List Line) → List Line
+followed None f = []
+followed (Some l) f = l ∷ f l
+
+-- the lines from this address on, at most n of them
+unfoldable pub linesFrom : ℕ → List ℕ → ℕ → List Line
+linesFrom zero image address = []
+linesFrom (suc n) image address = followed (nextLine image address) (λ l. linesFrom n image (l .address + lengthOf l))
+
+-- the lines of the whole EPROM: no more than there are addresses
+abbrev pub linesOf : List ℕ → List Line
+linesOf image = linesFrom addressSpace image epromFirst

@@ -7,6 +7,7 @@ use opcodes::Row;
 use opcodes::RowDisplay;
 use opcodes::row;
 use part::layout::branch_target;
+use part::layout::wrapped;
 use std::alloc::AllocError;
 use std::alloc::Global;
 
@@ -20,11 +21,11 @@ pub struct Line {
     pub row: Option<Row>,
 }
 
-// The byte at this address; past the end of the image all bytes are 0.
+// The byte at this address, which is taken as the part takes it; past the end of the image all bytes are 0.
 pub fn byte_at(image: &[u8], address: u16) -> u8
     ensures { λ r. ⌜ r ≡ byteAt (now (image .entry)) address ⌝ }
 {
-    let at = address as usize;
+    let at = wrapped(address) as usize;
     if at < image.len() { image[at] } else { 0 }
 }
 
@@ -36,8 +37,8 @@ pub fn line_at(image: &[u8], address: u16) -> Line
     Line {
         address,
         code,
-        first: byte_at(image, address.saturating_add(1)),
-        second: byte_at(image, address.saturating_add(2)),
+        first: byte_at(image, address.wrapping_add(1)),
+        second: byte_at(image, address.wrapping_add(2)),
         row: row(code),
     }
 }
@@ -59,7 +60,7 @@ impl Line {
         let Some(row) = self.row else {
             return Operand::Nothing;
         };
-        let next = self.address.saturating_add(u16::from(row.length));
+        let next = self.address.wrapping_add(u16::from(row.length));
         let offset = if row.length == 3 {
             self.second
         } else {
@@ -81,24 +82,37 @@ impl Line {
         }
     }
 
-    // Address, bytes, mnemonic, operand and cycles; a code without an instruction is shown as a byte.
+    // Address, bytes, mnemonic, operand and cycles; a code without an instruction is a byte that costs nothing.
     pub fn text(&self, heap: Global) -> Result<String, AllocError> {
         let bytes = self.bytes_text(heap)?;
         match self.row {
             Some(row) => {
                 let operand = self.operand();
                 let instruction = format!(heap, "{row} {operand}")?;
-                format!(
+                let cycles = format!(heap, "{}", row.cycles)?;
+                columns(
                     heap,
-                    "{:04X}  {bytes:<8}  {instruction:<20}  {}",
-                    self.address, row.cycles
+                    self.address,
+                    bytes.as_str(),
+                    instruction.as_str(),
+                    cycles.as_str(),
                 )
             }
-            None => format!(
-                heap,
-                "{:04X}  {bytes:<8}  FCB ${:02X}",
-                self.address, self.code
-            ),
+            None => {
+                let data = format!(heap, "FCB ${:02X}", self.code)?;
+                columns(heap, self.address, bytes.as_str(), data.as_str(), "-")
+            }
         }
     }
+}
+
+// The columns of a line.
+pub(crate) fn columns(
+    heap: Global,
+    address: u16,
+    bytes: &str,
+    instruction: &str,
+    last: &str,
+) -> Result<String, AllocError> {
+    format!(heap, "{address:04X}  {bytes:<8}  {instruction:<20}  {last}")
 }

@@ -1,4 +1,4 @@
-// Where the part's places lie. Every number that another part of the family would change stands here.
+// Where the part's places lie: the numbers of its address map stand here and nowhere else.
 ghost use mathlib.Core.Path.{_≡_};
 ghost use Prim.Native.Nat.{_%_};
 ghost use Rattle.part.specs.Layout.{addressSpace, branchTarget, fromImage, vectorAddress};
@@ -26,6 +26,9 @@ pub enum Vector {
 }
 
 impl Vector {
+    // All four, by rising address.
+    pub const ALL: [Vector; 4] = [Vector::Timer, Vector::External, Vector::Swi, Vector::Reset];
+
     // The address of its high byte; the low byte follows.
     pub fn address(self) -> u16
         ensures { λ r. ⌜ r ≡ vectorAddress self ⌝ }
@@ -59,6 +62,6 @@ pub fn from_image(address: u16) -> bool
 pub fn branch_target(next: u16, offset: u8) -> u16
     ensures { λ r. ⌜ r ≡ branchTarget next offset ⌝ }
 {
-    let back = if offset < 128 { 0 } else { ADDRESS_SPACE - 256 };
-    wrapped(wrapped(next) + offset as u16 + back)
+    let back = if offset < 128 { 0 } else { 256 };
+    wrapped(next.wrapping_add(offset as u16).wrapping_sub(back))
 }

@@ -26,14 +26,14 @@ abbrev pub orElse : {X : Type 0} → Option X → Problem → Result X Problem
 orElse (Some x) p = Ok x
 orElse None p = Err p
 
-abbrev pub wordAt : List (List ℕ) → ℕ → Result (List ℕ) Problem
-wordAt ws place = orElse (nth ws place) MissingArgument
+abbrev pub wordArgument : List (List ℕ) → ℕ → Result (List ℕ) Problem
+wordArgument ws place = orElse (nth ws place) MissingArgument
 
-abbrev pub numberAt : ℕ → List (List ℕ) → ℕ → Result ℕ Problem
-numberAt limit ws place = next (wordAt ws place) (λ w. orElse (numberOf limit w) BadNumber)
+abbrev pub numberArgument : ℕ → List (List ℕ) → ℕ → Result ℕ Problem
+numberArgument limit ws place = next (wordArgument ws place) (λ w. orElse (numberOf limit w) BadNumber)
 
-abbrev pub byteAt : List (List ℕ) → ℕ → Result ℕ Problem
-byteAt ws place = numberAt 255 ws place
+abbrev pub byteArgument : List (List ℕ) → ℕ → Result ℕ Problem
+byteArgument ws place = numberArgument 255 ws place
 
 -- no word stands at this place
 abbrev pub ended : Option (List ℕ) → Result (Unit {0}) Problem
@@ -44,16 +44,16 @@ abbrev pub endAt : List (List ℕ) → ℕ → Result (Unit {0}) Problem
 endAt ws place = ended (nth ws place)
 
 -- five numbers from this place on: level A, open A, level B, open B, IRQ
-abbrev pub readingAt : List (List ℕ) → ℕ → Result Reading Problem
-readingAt ws place =
-    next (byteAt ws place) (λ a. next (byteAt ws (place + 1)) (λ b. next (byteAt ws (place + 2)) (λ c.
-    next (byteAt ws (place + 3)) (λ d. next (byteAt ws (place + 4)) (λ e.
+abbrev pub readingArgument : List (List ℕ) → ℕ → Result Reading Problem
+readingArgument ws place =
+    next (byteArgument ws place) (λ a. next (byteArgument ws (place + 1)) (λ b. next (byteArgument ws (place + 2)) (λ c.
+    next (byteArgument ws (place + 3)) (λ d. next (byteArgument ws (place + 4)) (λ e.
     Ok (record { «level_a» = a; «open_a» = b; «level_b» = c; «open_b» = d; irq = e }))))))
 
 -- four numbers from this place on: direction A, driven A, direction B, driven B
-abbrev pub outputsAt : List (List ℕ) → ℕ → Result Outputs Problem
-outputsAt ws place =
-    next (byteAt ws place) (λ a. next (byteAt ws (place + 1)) (λ b. next (byteAt ws (place + 2)) (λ c. next (byteAt ws (place + 3)) (λ d.
+abbrev pub outputsArgument : List (List ℕ) → ℕ → Result Outputs Problem
+outputsArgument ws place =
+    next (byteArgument ws place) (λ a. next (byteArgument ws (place + 1)) (λ b. next (byteArgument ws (place + 2)) (λ c. next (byteArgument ws (place + 3)) (λ d.
     Ok (record { «direction_a» = a; «driven_a» = b; «direction_b» = c; «driven_b» = d })))))
 
 -- a matrix's number: exactly four hexadecimal digits
@@ -63,5 +63,5 @@ keysOf w =
     (andThen (hexPair (getD w 0 0) (getD w 1 0)) (λ high. andThen (hexPair (getD w 2 0) (getD w 3 0)) (λ low. Some (high * 256 + low))))
     None
 
-abbrev pub keysAt : List (List ℕ) → ℕ → Result ℕ Problem
-keysAt ws place = next (wordAt ws place) (λ w. orElse (keysOf w) BadKeys)
+abbrev pub keysArgument : List (List ℕ) → ℕ → Result ℕ Problem
+keysArgument ws place = next (wordArgument ws place) (λ w. orElse (keysOf w) BadKeys)

@@ -3,17 +3,17 @@ ghost use mathlib.Core.Path.{_≡_};
 ghost use Prim.Native.Nat.{_≤_};
 ghost use Rattle.std.specs.Results.{Cases};
 ghost use Rattle.text.specs.Words.{words};
-ghost use Rattle.script.specs.Arguments.{numberAt, byteAt, readingAt, outputsAt, keysOf, keysAt, endAt};
+ghost use Rattle.script.specs.Arguments.{numberArgument, byteArgument, readingArgument, outputsArgument, keysOf, keysArgument, endAt};
 use crate::call::Problem;
+use board::reading::Outputs;
+use board::reading::Reading;
 use text::hex::hex_pair;
 use text::number::number;
 use text::word::word_at;
-use board::reading::Outputs;
-use board::reading::Reading;
 
 // The number at this place, not above the limit.
 pub(crate) fn number_at(line: &str, place: usize, limit: u64) -> Result<u64, Problem>
-    ensures is { λ r. ⌜ r ≡ numberAt limit (words (now (line .entry))) place ⌝ }
+    ensures is { λ r. ⌜ r ≡ numberArgument limit (words (now (line .entry))) place ⌝ }
     ensures within { λ r. ⌜ Cases r (λ n. n ≤ limit) (λ _. Unit {0}) ⌝ }
 {
     let Some(word) = word_at(line, place) else {
@@ -27,7 +27,7 @@ pub(crate) fn number_at(line: &str, place: usize, limit: u64) -> Result<u64, Pro
 
 // The number from 0 to 255 at this place.
 pub(crate) fn byte_at(line: &str, place: usize) -> Result<u8, Problem>
-    ensures { λ r. ⌜ r ≡ byteAt (words (now (line .entry))) place ⌝ }
+    ensures { λ r. ⌜ r ≡ byteArgument (words (now (line .entry))) place ⌝ }
 {
     let n = number_at(line, place, 255)?;
     Ok(n as u8)
@@ -45,7 +45,7 @@ pub(crate) fn end_at(line: &str, place: usize) -> Result<(), Problem>
 
 // The reading that five numbers write from this place on.
 pub(crate) fn reading_at(line: &str, place: u8) -> Result<Reading, Problem>
-    ensures { λ r. ⌜ r ≡ readingAt (words (now (line .entry))) place ⌝ }
+    ensures { λ r. ⌜ r ≡ readingArgument (words (now (line .entry))) place ⌝ }
 {
     let place = place as usize;
     Ok(Reading {
@@ -59,7 +59,7 @@ pub(crate) fn reading_at(line: &str, place: u8) -> Result<Reading, Problem>
 
 // The outputs that four numbers write from this place on.
 pub(crate) fn outputs_at(line: &str, place: u8) -> Result<Outputs, Problem>
-    ensures { λ r. ⌜ r ≡ outputsAt (words (now (line .entry))) place ⌝ }
+    ensures { λ r. ⌜ r ≡ outputsArgument (words (now (line .entry))) place ⌝ }
 {
     let place = place as usize;
     Ok(Outputs {
@@ -77,18 +77,14 @@ fn keys_of(word: &[u8]) -> Option<u16>
     if word.len() != 4 {
         return None;
     }
-    let Some(high) = hex_pair(word[0], word[1]) else {
-        return None;
-    };
-    let Some(low) = hex_pair(word[2], word[3]) else {
-        return None;
-    };
-    Some(high as u16 * 256 + low as u16)
+    let high = hex_pair(word[0], word[1])?;
+    let low = hex_pair(word[2], word[3])?;
+    Some(u16::from_be_bytes([high, low]))
 }
 
 // The keys of a matrix at this place.
 pub(crate) fn keys_at(line: &str, place: usize) -> Result<u16, Problem>
-    ensures { λ r. ⌜ r ≡ keysAt (words (now (line .entry))) place ⌝ }
+    ensures { λ r. ⌜ r ≡ keysArgument (words (now (line .entry))) place ⌝ }
 {
     let Some(word) = word_at(line, place) else {
         return Err(Problem::MissingArgument);

@@ -1,10 +1,8 @@
 // What a line of a script asks for, and why a line is no call.
 ghost use mathlib.Core.Path.{_≡_};
-ghost use Rattle.std.specs.declared.option.Option.the-variants.{Some};
 ghost use Rattle.script.specs.Reasons.{reasonOf};
 use board::reading::Outputs;
 use board::reading::Reading;
-use std::fmt;
 
 // What a board is made for: a new machine, the living machine in place of its board, or to stand alone.
 #[derive(Clone, Copy)]
@@ -22,9 +20,9 @@ pub enum Kind {
     Matrix(u16),
 }
 
-// What is asked of the board that stands alone.
+// A call of the board that stands alone.
 #[derive(Clone, Copy)]
-pub enum Question {
+pub enum BoardCall {
     Show,
     Advance(u16),
     Tell(Outputs),
@@ -34,7 +32,7 @@ pub enum Question {
 #[derive(Clone, Copy)]
 pub enum Call {
     Make(Purpose, Kind),
-    Ask(Question),
+    OfBoard(BoardCall),
     // the listing of an image: the line's second word is its byte string
     Listing,
     // a call of the language that this program does not offer
@@ -65,13 +63,5 @@ impl Problem {
             Problem::BadNumber => "bad number",
             Problem::BadKeys => "bad keys",
         }
-    }
-}
-
-pub impl fmt::Display for Problem as ProblemDisplay {
-    ghost shown = { λ p. Some (reasonOf p) };
-
-    fn fmt<W: fmt::Write>(&self, f: &mut fmt::Formatter<W>) -> fmt::Result {
-        f.write_str(self.reason())
     }
 }

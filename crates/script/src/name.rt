@@ -13,7 +13,7 @@ pub enum Name {
     Bquiet,
     List,
     // a call of the language that is not offered
-    Other,
+    NotOffered,
 }
 
 // The call of this name.
@@ -30,7 +30,7 @@ pub(crate) fn name_of(word: &str) -> Option<Name>
         "bquiet" => Some(Name::Bquiet),
         "list" => Some(Name::List),
         "load" | "step" | "steps" | "run" | "save" | "open" | "reset" | "state" | "show" => Some(
-            Name::Other,
+            Name::NotOffered,
         ),
         _ => None,
     }

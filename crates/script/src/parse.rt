@@ -1,24 +1,24 @@
 // What each line of a script asks for.
 ghost use mathlib.Core.Path.{_≡_};
 ghost use Rattle.text.specs.Words.{words};
-ghost use Rattle.script.specs.Calls.{switchesOf, scheduleOf, matrixOf, boardOf, advanceOf, tellOf, listOf, callOf, entryOf, named};
+ghost use Rattle.script.specs.Calls.{switchesLine, scheduleLine, matrixLine, boardLine, advanceOf, tellOf, listOf, callOf, entryOf, named};
 use crate::argument::end_at;
 use crate::argument::keys_at;
 use crate::argument::number_at;
 use crate::argument::outputs_at;
 use crate::argument::reading_at;
+use crate::call::BoardCall;
 use crate::call::Call;
 use crate::call::Kind;
 use crate::call::Problem;
 use crate::call::Purpose;
-use crate::call::Question;
 use crate::name::Name;
 use crate::name::name_of;
-use text::word::word_at;
 use board::schedule::Entry;
+use text::word::word_at;
 
 fn switches(line: &str) -> Result<Kind, Problem>
-    ensures { λ r. ⌜ r ≡ switchesOf (words (now (line .entry))) ⌝ }
+    ensures { λ r. ⌜ r ≡ switchesLine (words (now (line .entry))) ⌝ }
 {
     let reading = reading_at(line, 2)?;
     end_at(line, 7)?;
@@ -26,7 +26,7 @@ fn switches(line: &str) -> Result<Kind, Problem>
 }
 
 fn schedule(line: &str) -> Result<Kind, Problem>
-    ensures { λ r. ⌜ r ≡ scheduleOf (words (now (line .entry))) ⌝ }
+    ensures { λ r. ⌜ r ≡ scheduleLine (words (now (line .entry))) ⌝ }
 {
     let count = number_at(line, 2, u32::MAX as u64)?;
     end_at(line, 3)?;
@@ -34,7 +34,7 @@ fn schedule(line: &str) -> Result<Kind, Problem>
 }
 
 fn matrix(line: &str) -> Result<Kind, Problem>
-    ensures { λ r. ⌜ r ≡ matrixOf (words (now (line .entry))) ⌝ }
+    ensures { λ r. ⌜ r ≡ matrixLine (words (now (line .entry))) ⌝ }
 {
     let keys = keys_at(line, 2)?;
     end_at(line, 3)?;
@@ -43,7 +43,7 @@ fn matrix(line: &str) -> Result<Kind, Problem>
 
 // The board that a line describes.
 fn board_of(line: &str) -> Result<Kind, Problem>
-    ensures { λ r. ⌜ r ≡ boardOf (words (now (line .entry))) ⌝ }
+    ensures { λ r. ⌜ r ≡ boardLine (words (now (line .entry))) ⌝ }
 {
     let Some(kind) = word_at(line, 1) else {
         return Err(Problem::MissingArgument);
@@ -61,7 +61,7 @@ fn advance(line: &str) -> Result<Call, Problem>
 {
     let cycles = number_at(line, 1, u16::MAX as u64)?;
     end_at(line, 2)?;
-    Ok(Call::Ask(Question::Advance(cycles as u16)))
+    Ok(Call::OfBoard(BoardCall::Advance(cycles as u16)))
 }
 
 fn tell(line: &str) -> Result<Call, Problem>
@@ -69,7 +69,7 @@ fn tell(line: &str) -> Result<Call, Problem>
 {
     let outputs = outputs_at(line, 1)?;
     end_at(line, 5)?;
-    Ok(Call::Ask(Question::Tell(outputs)))
+    Ok(Call::OfBoard(BoardCall::Tell(outputs)))
 }
 
 fn list(line: &str) -> Result<Call, Problem>
@@ -91,16 +91,16 @@ fn named_call(name: Name, line: &str) -> Result<Call, Problem>
         Name::Bench => Ok(Call::Make(Purpose::Alone, board_of(line)?)),
         Name::Bshow => {
             end_at(line, 1)?;
-            Ok(Call::Ask(Question::Show))
+            Ok(Call::OfBoard(BoardCall::Show))
         }
         Name::Badvance => advance(line),
         Name::Btell => tell(line),
         Name::Bquiet => {
             end_at(line, 1)?;
-            Ok(Call::Ask(Question::Quiet))
+            Ok(Call::OfBoard(BoardCall::Quiet))
         }
         Name::List => list(line),
-        Name::Other => Ok(Call::NotOffered),
+        Name::NotOffered => Ok(Call::NotOffered),
     }
 }
 

@@ -25,12 +25,8 @@ fn hex_digit(byte: u8) -> Option<u8>
 pub fn hex_pair(high: u8, low: u8) -> Option<u8>
     ensures { λ r. ⌜ r ≡ hexPair high low ⌝ }
 {
-    let Some(high) = hex_digit(high) else {
-        return None;
-    };
-    let Some(low) = hex_digit(low) else {
-        return None;
-    };
+    let high = hex_digit(high)?;
+    let low = hex_digit(low)?;
     Some(high * 16 + low)
 }
 

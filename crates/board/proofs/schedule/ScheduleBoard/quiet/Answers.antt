@@ -21,7 +21,7 @@ returns-in-Some c =
     let calm = ap (calmAfter (s .at)) e in
     record {
       still = λ k h. ap onPins (unchanged es (s .next) (s .at) k (s .current) (λ _. omega (arith, calm)));
-      most = c .calm-after .ensures ∙ calm ∙ sym (calm-here es (s .next) (s .at) lt);
+      answer = c .calm-after .ensures ∙ calm ∙ sym (calm-here es (s .next) (s .at) lt);
     }
 
 pub returns-in-None : need.returns-in-None
@@ -32,5 +32,5 @@ returns-in-None c =
     let past : length es ≤ s .next = ltb-false (s .next) (length es) (sym {b = here} (c .in-None .ensures tt .finds .0)) in
     record {
       still = λ k h. ap onPins (unchanged es (s .next) (s .at) k (s .current) (λ lt. absurd (omega arith)));
-      most = sym (calm-past es (s .next) (s .at) past);
+      answer = sym (calm-past es (s .next) (s .at) past);
     }
