@@ -53,6 +53,7 @@ impl Line {
             None => 1,
         }
     }
+
     // The operand of its instruction. A branch's offset is the last byte of the instruction.
     pub fn operand(&self) -> Operand
         ensures { λ r. ⌜ r ≡ operandOfLine (now (self .entry)) ⌝ }
