@@ -1,4 +1,6 @@
 // What the HC05 does with single bytes: bits, sums, shifts, flags, conditions, and the levels of a port's pins.
+#![tactic(auto)]
+
 pub mod bit;
 pub mod condition;
 pub mod flags;

@@ -1,4 +1,6 @@
 // Examples of each library on small cases, each proved safe and then run.
+#![tactic(auto)]
+
 #[cfg(test)]
 mod boards;
 #[cfg(test)]

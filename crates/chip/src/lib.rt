@@ -1,4 +1,6 @@
 // The chip but for its instructions: what it holds, its address map, pins, registers and stack, a reset, and one cycle.
+#![tactic(auto)]
+
 pub mod cycle;
 pub mod map;
 pub mod memory;

@@ -1,4 +1,6 @@
 // The bench program but for its entry point: reads a script and answers each call, line by line.
+#![tactic(auto)]
+
 ghost use Rattle.std.specs.Prelude.{◌≡◌, IsUtf8};
 
 mod alone;

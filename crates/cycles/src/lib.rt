@@ -1,4 +1,6 @@
 // Cycles of a chip on its board.
+#![tactic(auto)]
+
 ghost use Rattle.std.specs.Prelude.{◌≡◌, ◌<◌};
 ghost use Rattle.timer.specs.Clock.{Runs};
 ghost use Rattle.cycles.specs.Cycles.{cycled, Room};

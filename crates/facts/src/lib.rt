@@ -1,4 +1,6 @@
 // Worked cases of the part.
+#![tactic(auto)]
+
 ghost use Rattle.facts.specs.Cases.{KnownCases};
 
 use board::contract::Board;

@@ -1,4 +1,5 @@
 // The bench program: answers a script on standard input. Its own script here is the worked example of the README.
+#![tactic(auto)]
 
 fn main(rt: HostRuntime) -> anyhow::Result<()> {
     desk::run(&rt)

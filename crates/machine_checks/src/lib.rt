@@ -1,4 +1,6 @@
 // Examples of a machine on small cases, each proved safe and then run.
+#![tactic(auto)]
+
 #[cfg(test)]
 mod calls;
 #[cfg(test)]

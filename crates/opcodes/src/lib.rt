@@ -1,4 +1,6 @@
 // The opcode table of the HC05, and the text of an instruction for a listing.
+#![tactic(auto)]
+
 mod addressing;
 mod hex;
 mod mnemonic;

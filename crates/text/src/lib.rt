@@ -1,4 +1,6 @@
 // The text of a script: lines, words, numbers, byte strings and their hash.
+#![tactic(auto)]
+
 pub mod fnv;
 pub mod hex;
 pub mod hex_text;
