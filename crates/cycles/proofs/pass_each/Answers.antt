@@ -12,7 +12,7 @@ loop-i-preserved g c =
     let s = c.loop-i.chip in
     let b = c.loop-i.board in
     let n = c.args.n in
-    let i = c.loop-i.-i in
+    let i = c.loop-i._i in
     let rises = c.args.rises in
     let y = active (m.shows (m.advanced b 1) 0) s in
     let chip = c.cycle.ensures.chip ∙ once rises y s in
@@ -29,6 +29,6 @@ loop-i-preserved g c =
 pub returns : goal.returns
 returns g c =
     let m = g.B.Board in
-    let none : 0 ≡ c.args.n - c.loop-i.-i = omega arith in
+    let none : 0 ≡ c.args.n - c.loop-i._i = omega arith in
     sym (cycled_none m c.args.rises c.loop-i.chip c.loop-i.board)
     ∙ ap (λ k. cycled m c.args.rises k c.loop-i.chip c.loop-i.board) none ∙ c.loop-i.invariant.0

@@ -7,12 +7,12 @@ loop-next-init c = (refl, refl)
 
 pub loop-next-preserved : goal.loop-next-preserved
 loop-next-preserved c =
-    let p = come c.args.entries.now c.loop-next.next c.args.at c.loop-next.shown c.loop-next-test.true (sym c.if-has-come.ensures) in
+    let p = come c.args.entries.now c.loop-next.next c.args.at c.loop-next.shown c.loop-next-test.true (sym c.if-has_come.ensures) in
     (omega arith, c.loop-next.invariant.1 ∙ p.1)
 
-pub returns-else-has-come : goal.returns-else-has-come
-returns-else-has-come c =
-    let p = late c.args.entries.now c.loop-next.next c.args.at c.loop-next.shown (λ _. sym c.if-has-come.ensures) in
+pub returns-else-has_come : goal.returns-else-has_come
+returns-else-has_come c =
+    let p = late c.args.entries.now c.loop-next.next c.args.at c.loop-next.shown (λ _. sym c.if-has_come.ensures) in
     let a = p.0 in
     let b = p.1 in
     (omega arith, cc)

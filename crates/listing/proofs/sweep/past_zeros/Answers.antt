@@ -8,14 +8,14 @@ loop-at-preserved c =
     let at = c.loop-at.at in
     let image = c.args.image.now in
     let left : sweep_end - at ≡ suc (sweep_end - (at + 1)) = omega arith in
-    c.loop-at.invariant ∙ ap (λ n. past_zeros image n at) left ∙ zero_more image at (sweep_end - (at + 1)) (sym c.byte-at.ensures ∙ c.if-byte-at-eq0.true)
+    c.loop-at.invariant ∙ ap (λ n. past_zeros image n at) left ∙ zero_more image at (sweep_end - (at + 1)) (sym c.byte_at.ensures ∙ c.if-byte_at-eq0.true)
 
-pub returns-else-byte-at-eq0 : goal.returns-else-byte-at-eq0
-returns-else-byte-at-eq0 c =
+pub returns-else-byte_at-eq0 : goal.returns-else-byte_at-eq0
+returns-else-byte_at-eq0 c =
     let at = c.loop-at.at in
     let image = c.args.image.now in
     let left : sweep_end - at ≡ suc (sweep_end - (at + 1)) = omega arith in
-    sym (c.loop-at.invariant ∙ ap (λ n. past_zeros image n at) left ∙ zero_stops image at (sweep_end - (at + 1)) (λ e. c.if-byte-at-eq0.false (c.byte-at.ensures ∙ e)))
+    sym (c.loop-at.invariant ∙ ap (λ n. past_zeros image n at) left ∙ zero_stops image at (sweep_end - (at + 1)) (λ e. c.if-byte_at-eq0.false (c.byte_at.ensures ∙ e)))
 
 pub returns-after-loop-at : goal.returns-after-loop-at
 returns-after-loop-at c =

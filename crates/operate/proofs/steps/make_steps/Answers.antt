@@ -15,7 +15,7 @@ loop-made-preserved g c =
     let l = c.loop-made in
     let t = state c.step.new.self in
     let k : c.args.most - (l.made + 1) ≡ c.args.most - l.made - 1 = omega arith in
-    (λ i. steps_more m (k i) (l.made + 1) (c.hash-step-hash.ensures i) t)
+    (λ i. steps_more m (k i) (l.made + 1) (c.hash_step-hash.ensures i) t)
     ∙ sym (first m l.made l.hash (state l.machine) (c.args.most - l.made) (Ok c.in-Ok.answer) t (omega arith) c.in-Ok.ensures) ∙ l.invariant
 
 pub returns : goal.returns

@@ -2,12 +2,12 @@ use Rattle.std.proofs.Common.{codes, sym}
 use Rattle.orders.proofs.Lookups.{other}
 use Rattle.orders.proofs.parse.board_of.Goals as goal
 
-pub returns-in-default-kind : goal.returns-in-default-kind
-returns-in-default-kind c =
+pub returns-in_default-kind : goal.returns-in_default-kind
+returns-in_default-kind c =
     let kind = c.in-Some.kind.now in
     rw (
       sym c.in-Some.ensures,
-      other kind (codes "switches") c.in-default-kind.not-switches,
-      other kind (codes "schedule") c.in-default-kind.not-schedule,
-      other kind (codes "matrix") c.in-default-kind.not-matrix,
+      other kind (codes "switches") c.in_default-kind.not-switches,
+      other kind (codes "schedule") c.in_default-kind.not-schedule,
+      other kind (codes "matrix") c.in_default-kind.not-matrix,
     )

@@ -3,9 +3,9 @@ use Rattle.script.specs.Names.{names}
 use Rattle.script.proofs.Lookups.{not_found}
 use Rattle.script.proofs.name.name_of.Goals as goal
 
-pub returns-in-default : goal.returns-in-default
-returns-in-default c =
-    let r = c.in-default in
+pub returns-in_default : goal.returns-in_default
+returns-in_default c =
+    let r = c.in_default in
     sym (not_found names c.args.word.now (
       r.not-board,
       (

@@ -3,16 +3,16 @@ use Rattle.text.specs.Hex.{pairs_after}
 use Rattle.text.proofs.Pairs.{pair_next, pairs_end, pairs_odd}
 use Rattle.text.proofs.hex.pairs_of.Goals as goal
 
-pub returns-in-default : goal.returns-in-default
-returns-in-default c =
+pub returns-in_default : goal.returns-in_default
+returns-in_default c =
     let within : 2 * c.loop-i.i + 1 < length c.args.digits.now = omega arith in
-    sym (c.loop-i.invariant ∙ pair_next (vec_items c.loop-i.bytes) c.args.digits.now c.loop-i.i within None (sym c.in-default.ensures))
+    sym (c.loop-i.invariant ∙ pair_next (vec_items c.loop-i.bytes) c.args.digits.now c.loop-i.i within None (sym c.in_default.ensures))
 
 pub loop-i-preserved : goal.loop-i-preserved
 loop-i-preserved c =
     let within : 2 * c.loop-i.i + 1 < length c.args.digits.now = omega arith in
     let next = pair_next (vec_items c.loop-i.bytes) c.args.digits.now c.loop-i.i within (Some c.in-Some.byte) (sym c.in-Some.ensures) in
-    let pushed = c.in-ok-push.ensures.items in
+    let pushed = c.in_ok-push.ensures.items in
     rw pushed (c.loop-i.invariant ∙ next)
 
 pub returns-then-digits-eq0 : goal.returns-then-digits-eq0

@@ -6,5 +6,5 @@ use Rattle.board.proofs.schedule.Schedule.new.Goals as goal
 pub returns : goal.returns
 returns c =
     let es = c.args.entries.now in
-    let all = some_first es (omega (arith, ltb-false)) ∙ sym c.in-default-first-bad.ensures in
+    let all = some_first es (omega (arith, ltb-false)) ∙ sym c.in_default-first_bad.ensures in
     record { answer = of_good c.args.entries all; shown = from_first es all }

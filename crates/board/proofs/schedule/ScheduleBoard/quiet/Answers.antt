@@ -16,7 +16,7 @@ returns-in-Some c =
     let calm = ap (calm_after s.at) e in
     record {
       still = λ k h. ap on_pins (unchanged es s.next s.at k s.current (λ _. omega (arith, calm)));
-      answer = c.calm-after.ensures ∙ calm ∙ sym (calm_here es s.next s.at lt);
+      answer = c.calm_after.ensures ∙ calm ∙ sym (calm_here es s.next s.at lt);
     }
 
 pub returns-in-None : goal.returns-in-None

@@ -6,6 +6,6 @@ use Rattle.part.proofs.rom.Rom.take.Goals as goal
 pub returns : goal.returns
 returns c =
     let image = c.args.image.now in
-    let eprom : c.copy-from-slice.new.self ≡ stretch eprom_first eprom_last image = c.copy-from-slice.ensures.after in
-    let vectors : c.copy-from-slice-2.new.self ≡ stretch vectors_first vectors_last image = c.copy-from-slice-2.ensures.after in
+    let eprom : c.copy_from_slice.new.self ≡ stretch eprom_first eprom_last image = c.copy_from_slice.ensures.after in
+    let vectors : c.copy_from_slice-2.new.self ≡ stretch vectors_first vectors_last image = c.copy_from_slice-2.ensures.after in
     λ i. record { eprom = eprom i; options = get_or image option_byte 0; vectors = vectors i }

@@ -6,4 +6,4 @@ use Rattle.session.proofs.session.Session.begin.Goals as goal
 pub returns : goal.returns
 returns c =
     let w : Waiting = record { purpose = c.args.purpose; left = c.args.left; entries = c.new-entries.result; bad_line = false } in
-    IfOk-weaker c.read-on.result _ _ (λ reply p. (w, refl, refl, c.new-entries.ensures.items, refl, p)) c.read-on.ensures
+    IfOk-weaker c.read_on.result _ _ (λ reply p. (w, refl, refl, c.new-entries.ensures.items, refl, p)) c.read_on.ensures
