@@ -12,7 +12,7 @@ loop-byte-init g c = λ plain. record { wrote = writes_in_calls_nil _ _; plain =
 pub loop-byte-preserved : goal.loop-byte-preserved
 loop-byte-preserved g c = λ plain.
     let before = c.loop-byte.invariant plain in
-    put_byte g.W.Write.write_str_gives c.args.f.now c.loop-byte.f c.fmt.new.f c.args.self.now.0.now c.loop-byte.byte-index c.loop-byte-test.true before (c.in_ok-fmt.ensures before.plain (refl {a = true}))
+    put_byte g.W.Write.write_str_gives c.args.f.now c.loop-byte.f c.fmt.new.f c.args.self.now.0.now c.loop-byte.byte-index c.loop-byte-test.true before (c.in_ok-fmt.ensures.writes before.plain (refl {a = true}))
 
 pub returns-clause-writes : goal.returns-clause-writes
 returns-clause-writes g c = λ plain _. has_written_of_eq _ _ _ _ _ (ap bytes_text (take_all c.loop-byte.byte-index c.args.self.now.0.now c.loop-byte-test.false)) (c.loop-byte.invariant plain)
