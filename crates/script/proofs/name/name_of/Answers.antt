@@ -22,7 +22,7 @@ returns-in_default c =
                   r.not-bquiet,
                   (
                     r.not-list,
-                    (r.not-load, (r.not_step, (r.not-steps, (r.not-run, (r.not-save, (r.not-open, (r.not-reset, (r.not-state, (r.not-show, tt))))))))),
+                    (r.not-load, (r.not-step, (r.not-steps, (r.not-run, (r.not-save, (r.not-open, (r.not-reset, (r.not-state, (r.not-show, tt))))))))),
                   ),
                 ),
               ),
