@@ -13,8 +13,8 @@ use chip::state::Chip;
 // One cycle: the board advances, the pins are sampled and, unless it stands, t rises.
 fn cycle<B: Board>(chip: &mut Chip, board: &mut B, rises: bool)
     requires { Runs chip.old.timer }
-    ensures chip { chip.new ≡ passed rises (active (shows (advanced board.old 1) 0) chip.old) 1 chip.old }
-    ensures board { board.new ≡ advanced board.old 1 }
+    ensures chip { chip.new ≡ passed rises (active (B.shows (B.advanced board.old 1) 0) chip.old) 1 chip.old }
+    ensures board { board.new ≡ B.advanced board.old 1 }
 {
     board.advance(1);
     let active = chip.active(&board.show());
