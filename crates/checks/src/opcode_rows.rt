@@ -5,9 +5,9 @@ use std::process::Abort;
 use std::test::Fail;
 
 // The code has an instruction of so many bytes and cycles.
-fn costs(rt: &impl Abort, code: u8, length: u8, cycles: u8) -> Result<(), Fail> {
+fn costs(rt: &impl Abort, name: &str, code: u8, length: u8, cycles: u8) -> Result<(), Fail> {
     let row = row(code).ok_or("no instruction")?;
-    assert!(rt; row.length == length && row.cycles == cycles);
+    assert!(rt; row.length == length && row.cycles == cycles, "{name}");
     Ok(())
 }
 
@@ -29,10 +29,10 @@ fn lists(
 
 #[test]
 fn lengths_and_cycles(rt: HostRuntime) -> Result<(), Fail> {
-    costs(&rt, 0xA6, 2, 2).note("LDA immediate")?;
-    costs(&rt, 0x42, 1, 11).note("MUL")?;
-    costs(&rt, 0xDD, 3, 7).note("JSR with a word offset")?;
-    costs(&rt, 0x6D, 2, 5).note("TST with a byte offset")?;
+    costs(&rt, "LDA immediate", 0xA6, 2, 2)?;
+    costs(&rt, "MUL", 0x42, 1, 11)?;
+    costs(&rt, "JSR with a word offset", 0xDD, 3, 7)?;
+    costs(&rt, "TST with a byte offset", 0x6D, 2, 5)?;
     assert!(rt; row(0x9E).is_none(), "no instruction");
     Ok(())
 }

@@ -84,7 +84,7 @@ fn byte_count(heap: Global, word: &str) -> Result<Option<usize>, AllocError> {
 fn bytes_are_pairs_of_small_digits(rt: HostRuntime) -> Result<(), Fail> {
     let heap = rt.alloc();
     match bytes_of(heap, "00a5ff")? {
-        Some(bytes) => assert!(rt; bytes.as_slice() == &[0x00, 0xA5, 0xFF]),
+        Some(bytes) => assert!(rt; bytes.as_slice() == [0x00, 0xA5, 0xFF].as_slice()),
         None => return Err(Fail::new("three bytes")),
     }
     assert_eq!(rt; byte_count(heap, "-")?, Some(0));
@@ -96,9 +96,9 @@ fn bytes_are_pairs_of_small_digits(rt: HostRuntime) -> Result<(), Fail> {
 
 #[test]
 fn lines_end_and_are_skipped(rt: HostRuntime) {
-    assert!(rt; content(b"bshow\r\n") == b"bshow");
-    assert!(rt; content(b"bshow\n") == b"bshow");
-    assert!(rt; content(b"bshow") == b"bshow");
+    assert!(rt; content(b"bshow\r\n") == b"bshow".as_slice());
+    assert!(rt; content(b"bshow\n") == b"bshow".as_slice());
+    assert!(rt; content(b"bshow") == b"bshow".as_slice());
     assert!(rt; is_skipped(""));
     assert!(rt; is_skipped("# a note"));
     assert!(rt; !is_skipped("bshow"));

@@ -18,7 +18,7 @@ invariant_of-self-2 g c =
     let cost = c.from.ensures in
     let limit = below_limit (state s) (sym c.may_step.ensures ∙ c.in_default.is) in
     let sound = c.step_chip.ensures.sound in
-    (sound.0, (sound.1, (sound.2, (sound.3, (sound.4, (omega arith, tt))))))
+    record { registers = sound.0; ports = sound.1; timer = sound.2; stage = sound.3; rest = sound.4; count = omega arith }
 
 pub returns : goal.returns
 returns g c =
