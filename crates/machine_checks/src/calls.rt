@@ -6,6 +6,7 @@ use machine::answer::*;
 use machine::machine::Machine;
 use part::image::*;
 use refusal::*;
+use std::test::Fail;
 use step::answer::*;
 
 #[test]

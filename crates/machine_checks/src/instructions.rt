@@ -2,6 +2,7 @@
 use crate::firmware::*;
 use board::switches::*;
 use refusal::*;
+use std::test::Fail;
 
 #[test]
 fn a_sum_sets_half_carry_and_carry(rt: HostRuntime) -> Result<(), Fail> {

@@ -6,6 +6,7 @@ use machine::machine::Machine;
 use part::image::*;
 use refusal::*;
 use std::process::Abort;
+use std::test::Fail;
 use step::answer::*;
 
 // The code: CLR $08 for the shortest period, BRCLR 0,$00 to itself, left at 16,380, a pause, STX $07F0 as the service, and BRA to itself.

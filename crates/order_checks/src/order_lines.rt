@@ -1,11 +1,7 @@
 // What lines of a script ask for.
 use orders::call::{BoardCall, Call, Kind, MachineCall, Problem, Purpose};
 use orders::parse::{parse_call, parse_entry};
-use std::alloc::{AllocError, Global};
 use std::test::Fail;
-use text::hex::bytes_of;
-use text::line::{content, is_skipped};
-use text::word::word_at;
 
 // Why the line is no call.
 fn problem(line: &str) -> Option<Problem> {
@@ -96,38 +92,4 @@ fn an_entry_has_a_cycle_and_a_reading(rt: HostRuntime) -> Result<(), Fail> {
     assert!(rt; parse_entry("0 1 2 3 4").is_err());
     assert!(rt; parse_entry("0 1 2 3 4 256").is_err());
     Ok(())
-}
-
-// How many bytes the word writes.
-fn byte_count(heap: Global, word: &str) -> Result<Option<usize>, AllocError> {
-    match bytes_of(heap, word)? {
-        Some(bytes) => Ok(Some(bytes.len())),
-        None => Ok(None),
-    }
-}
-
-#[test]
-fn bytes_are_pairs_of_small_digits(rt: HostRuntime) -> Result<(), Fail> {
-    let heap = rt.alloc();
-    match bytes_of(heap, "00a5ff")? {
-        Some(bytes) => assert!(rt; bytes.as_slice() == &[0x00, 0xA5, 0xFF]),
-        None => return Err(Fail::new("three bytes")),
-    }
-    assert_eq!(rt; byte_count(heap, "-")?, Some(0));
-    assert_eq!(rt; byte_count(heap, "a5f")?, None);
-    assert_eq!(rt; byte_count(heap, "A5")?, None);
-    assert_eq!(rt; byte_count(heap, "")?, None);
-    Ok(())
-}
-
-#[test]
-fn lines_end_and_are_skipped(rt: HostRuntime) {
-    assert!(rt; content(b"bshow\r\n") == b"bshow");
-    assert!(rt; content(b"bshow\n") == b"bshow");
-    assert!(rt; content(b"bshow") == b"bshow");
-    assert!(rt; is_skipped(""));
-    assert!(rt; is_skipped("# a note"));
-    assert!(rt; !is_skipped("bshow"));
-    assert_eq!(rt; word_at("open 1 @a.state", 2), Some("@a.state"));
-    assert_eq!(rt; word_at("open 1 @a.state", 3), None);
 }
