@@ -1,5 +1,5 @@
 -- What a read of an address answers, and what a write does.
-use Rattle.std.specs.Prelude.{ℕ, ◌+◌, ◌%◌, Bool, not, cond, ◌&&◌, eqb, get_or, set}
+use Rattle.std.specs.Prelude.{ℕ, ◌+◌, ◌%◌, not, cond, ◌&&◌, eqb, get_or, set}
 use Rattle.bits.specs.Bits.{bit_at, flag}
 use Rattle.board.specs.declared.reading.Reading.{Reading}
 use Rattle.timer.specs.declared.state.Timer.{Timer}

@@ -1,5 +1,5 @@
 -- The chip as it is made, and its reset.
-use Rattle.std.specs.Prelude.{ℕ, true, false, replicate}
+use Rattle.std.specs.Prelude.{true, false, replicate}
 use Rattle.alu.specs.Flags.{with_i}
 use Rattle.part.specs.declared.layout.Vector.TheVariants.{Reset as ResetVector}
 use Rattle.part.specs.Rom.{blank_rom, vector_in}

@@ -1,20 +1,16 @@
 -- Cycles one by one and at once, and what they leave.
 use mathlib.Core.Path.{◌≡◌, refl, sym, ap, ◌∙◌}
 use mathlib.Core.Bool.{Bool, true, false, not, cond, ◌&&◌, ◌||◌}
-use Prim.Native.Nat.{ℕ, zero, suc, ◌+◌, ◌-◌, ◌^◌, ◌≤◌, ◌<◌}
+use Prim.Native.Nat.{ℕ, zero, suc, ◌+◌, ◌-◌, ◌≤◌, ◌<◌}
 use native.Mathlib.Omega.{arith}
 use Rattle.board.specs.declared.contract.Board.{Ghosts}
-use Rattle.board.specs.declared.reading.Reading.{Reading}
 use Rattle.chip.specs.declared.state.Chip.{Chip}
-use Rattle.chip.specs.declared.state.Interrupt.{Interrupt}
-use Rattle.chip.specs.Cycle.{ticked, passed, sampled}
+use Rattle.chip.specs.Cycle.{ticked, passed}
 use Rattle.chip.specs.Pins.{active}
-use Rattle.part.specs.declared.rom.Rom.{Rom}
 use Rattle.part.specs.Rom.{copen}
-use Rattle.timer.specs.declared.state.Timer.{Timer}
-use Rattle.timer.specs.Clock.{period, multiple, risen, risen_by, Runs, clock_span}
+use Rattle.timer.specs.Clock.{risen, risen_by, Runs, clock_span}
 use Rattle.timer.proofs.Clocks.{ranges}
-use Rattle.cycles.specs.Cycles.{cycled, Room}
+use Rattle.cycles.specs.Cycles.{cycled}
 
 -- a cycle is what one cycle of the chip is
 pub once : (rises y : Bool) (s : Chip) → passed rises y 1 s ≡ ticked rises y s

@@ -1,5 +1,5 @@
 -- A byte of code in EPROM.
-use Rattle.std.proofs.Common.{◌≡◌, ℕ, ◌+◌, ◌-◌, ◌%◌, ◌<◌, ◌≤◌, true, ◌&&◌, get_or, sym, refl, ap, ◌∙◌, arith, le-leb}
+use Rattle.std.proofs.Common.{◌≡◌, ℕ, ◌-◌, ◌%◌, ◌≤◌, get_or, ap, ◌∙◌, arith, le-leb}
 use Rattle.board.specs.declared.reading.Reading.{Reading}
 use Rattle.chip.specs.declared.state.Chip.{Chip}
 use Rattle.chip.specs.Memory.{read, read_at}

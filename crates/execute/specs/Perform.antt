@@ -7,7 +7,6 @@ use Rattle.alu.specs.Flags.{with_c}
 use Rattle.alu.specs.Modify.{modified_byte, modified_flags}
 use Rattle.board.specs.declared.reading.Reading.{Reading}
 use Rattle.chip.specs.declared.state.Chip.{Chip}
-use Rattle.chip.specs.declared.state.Registers.{Registers}
 use Rattle.chip.specs.Memory.{read, written}
 use Rattle.chip.specs.State.{with_registers, with_a, with_x, with_sp, with_flags}
 use Rattle.opcodes.specs.declared.addressing.Addressing.{Addressing}

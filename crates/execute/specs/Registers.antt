@@ -1,5 +1,5 @@
 -- The instructions that take a byte to a register or work on registers alone.
-use Rattle.std.specs.Prelude.{ℕ, Bool, false, bit_and, bit_or, bit_xor}
+use Rattle.std.specs.Prelude.{ℕ, false, bit_and, bit_or, bit_xor}
 use Rattle.alu.specs.Flags.{with_h, with_c, with_nz, with_nzc}
 use Rattle.alu.specs.Sum.{sum_of, difference_of, product_of}
 use Rattle.alu.specs.declared.outcome.Outcome.{Outcome}

@@ -1,5 +1,5 @@
 -- A walk over zeros, at one byte.
-use Rattle.std.proofs.Common.{◌≡◌, ℕ, suc, ◌+◌, true, false, eqb, List, refl, add-one, eq-eqb, ne_eqb}
+use Rattle.std.proofs.Common.{◌≡◌, ℕ, suc, ◌+◌, List, refl, add-one, eq-eqb, ne_eqb}
 use Rattle.listing.specs.Line.{byte_at}
 use Rattle.listing.specs.Sweep.{past_zeros}
 

@@ -1,12 +1,11 @@
 -- The cases of a run.
-use Rattle.std.proofs.Common.{◌≡◌, ℕ, zero, suc, ◌+◌, ◌-◌, ◌<◌, ◌≤◌, Bool, true, false, cond, ltb, List, [], ◌∷◌, length, Ok, Err, Result, sym, refl, ap, ◌∙◌, zero-add, arith}
+use Rattle.std.proofs.Common.{◌≡◌, ℕ, zero, suc, ◌+◌, ◌-◌, ◌<◌, ◌≤◌, Bool, true, false, cond, ltb, ◌∷◌, length, Ok, Err, Result, sym, refl, ap, ◌∙◌, zero-add, arith}
 use Rattle.std.proofs.lemmas.Bool.{lt-ltb, le-ltb, true≢false, false≢true, cond-true, cond-false}
 use Rattle.board.specs.declared.contract.Board.{Ghosts}
 use Rattle.refusal.specs.declared.Refusal.{Refusal}
 use Rattle.refusal.specs.declared.Refusal.TheVariants.{NoImage, Target}
 use Rattle.step.specs.declared.answer.StepAnswer.{StepAnswer}
 use Rattle.machine.specs.declared.answer.RunAnswer.{RunAnswer}
-use Rattle.machine.specs.declared.answer.RunEnd.{RunEnd}
 use Rattle.machine.specs.declared.answer.RunEnd.TheVariants.{Reached, Stuck}
 use Rattle.machine.specs.Limits.{total_limit}
 use Rattle.machine.specs.State.{State}

@@ -2,7 +2,6 @@
 use Rattle.std.specs.Prelude.{ℕ, ◌+◌, Bool, true, false, cond, List, Some, None, Ok, Err, Option, Result, nat_lt}
 use Rattle.board.specs.declared.contract.Board.{Ghosts}
 use Rattle.chip.specs.declared.state.Chip.{Chip}
-use Rattle.chip.specs.declared.state.Interrupt.{Interrupt}
 use Rattle.chip.specs.Pins.{active, outputs}
 use Rattle.chip.specs.Reset.{fresh, reset}
 use Rattle.chip.specs.State.{with_interrupt, with_rom, with_active}

@@ -2,7 +2,6 @@
 use Rattle.std.specs.Prelude.{ℕ, ◌/◌, ◌%◌, cond, List, [], ◌∷◌, map, Some, None, Option, ◌==◌, slice_index_or}
 use Rattle.opcodes.specs.declared.operation.Bit.{Bit}
 use Rattle.opcodes.specs.declared.operation.Bit.TheVariants.{Bit0, Bit1, Bit2, Bit3, Bit4, Bit5, Bit6, Bit7}
-use Rattle.opcodes.specs.declared.operation.Condition.{Condition}
 use Rattle.opcodes.specs.declared.operation.Condition.TheVariants.{Always, Never, Higher, LowerOrSame, CarryClear, CarrySet, NotEqual, Equal, HalfCarryClear, HalfCarrySet, Plus, Minus, MaskClear, MaskSet, IrqLow, IrqHigh}
 use Rattle.opcodes.specs.declared.operation.ReadModifyWrite.{ReadModifyWrite}
 use Rattle.opcodes.specs.declared.operation.ReadModifyWrite.TheVariants.{Neg, Com, Lsr, Ror, Asr, Lsl, Rol, Dec, Inc, Tst, Clr}

@@ -2,7 +2,7 @@
 use Rattle.std.proofs.Common.{◌≡◌, ℕ, zero, suc, ◌-◌, ◌<◌, None, Result, sym, refl, ap, ◌∙◌, arith}
 use Rattle.board.specs.declared.contract.Board.{Ghosts}
 use Rattle.machine.specs.State.{State}
-use Rattle.machine.specs.Calls.{Answered, step_of}
+use Rattle.machine.specs.Calls.{step_of}
 use Rattle.refusal.specs.declared.Refusal.{Refusal}
 use Rattle.step.specs.declared.answer.StepAnswer.{StepAnswer}
 use Rattle.operate.specs.Steps.{steps_after, steps_more}

@@ -2,7 +2,7 @@
 use Rattle.std.specs.Prelude.{ℕ, zero, suc, ◌+◌, Some, None, Ok, Err, Result}
 use Rattle.board.specs.declared.contract.Board.{Ghosts}
 use Rattle.machine.specs.State.{State}
-use Rattle.machine.specs.Calls.{Answered, step_of}
+use Rattle.machine.specs.Calls.{step_of}
 use Rattle.refusal.specs.declared.Refusal.{Refusal}
 use Rattle.step.specs.declared.answer.StepAnswer.{StepAnswer}
 use Rattle.step.specs.Answer.{kind_number, cause_number}

@@ -4,7 +4,6 @@ use Rattle.std.specs.Str.{bytes_eq}
 use Rattle.board.specs.declared.schedule.Entry.{Entry}
 use Rattle.orders.specs.declared.name.Name.{Name}
 use Rattle.orders.specs.declared.name.Name.TheVariants.{Board, Change, Bench, Bshow, Badvance, Btell, Bquiet, List as ListName, Load, Step, Steps, Run, State, Show, Trace, NotOffered}
-use Rattle.orders.specs.declared.call.Purpose.{Purpose}
 use Rattle.orders.specs.declared.call.Purpose.TheVariants.{NewMachine, Replacement, Alone}
 use Rattle.orders.specs.declared.call.Call.{Call}
 use Rattle.orders.specs.declared.call.Call.TheVariants as call

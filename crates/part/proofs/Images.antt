@@ -1,5 +1,5 @@
 -- The loop of the image check, at one byte.
-use Rattle.std.proofs.Common.{◌≡◌, ℕ, suc, ◌+◌, ◌<◌, true, false, cond, List, length, get_or, drop, Ok, Err, ap, ◌∙◌, add-one, eq-eqb}
+use Rattle.std.proofs.Common.{◌≡◌, ℕ, ◌+◌, ◌<◌, true, false, List, length, get_or, drop, Err, add-one, eq-eqb}
 use Rattle.std.proofs.lemmas.List.{drop_more}
 use Rattle.part.specs.declared.image.ImageRefused.TheVariants.{Byte}
 use Rattle.part.specs.Image.{allowed, clean_from, image_checked}

@@ -4,7 +4,6 @@ use Rattle.std.specs.Str.{bytes_eq}
 use Rattle.board.specs.declared.schedule.Entry.{Entry}
 use Rattle.script.specs.declared.name.Name.{Name}
 use Rattle.script.specs.declared.name.Name.TheVariants.{Board, Change, Bench, Bshow, Badvance, Btell, Bquiet, List as ListName, NotOffered as NoOffer}
-use Rattle.script.specs.declared.call.Purpose.{Purpose}
 use Rattle.script.specs.declared.call.Purpose.TheVariants.{NewMachine, Replacement, Alone}
 use Rattle.script.specs.declared.call.Call.{Call}
 use Rattle.script.specs.declared.call.Call.TheVariants.{Make, OfBoard, Listing, NotOffered}

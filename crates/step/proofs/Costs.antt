@@ -1,5 +1,5 @@
 -- What a step costs.
-use Rattle.std.proofs.Common.{◌≡◌, ℕ, ◌+◌, ◌/◌, ◌%◌, ◌<◌, ◌≤◌, Bool, cond, eqb, ◌⊎◌, List, [], get_or, Some, None, Option, sym, refl, ap, ◌∙◌, subst, inl, inr, arith}
+use Rattle.std.proofs.Common.{◌≡◌, ℕ, ◌/◌, ◌%◌, ◌≤◌, cond, [], get_or, Some, None, Option, sym, ap, ◌∙◌, subst, inl, inr, arith}
 use Rattle.std.proofs.lemmas.List.{get_or_past}
 use Rattle.std.proofs.lemmas.Bool.{cases_lt, cond_both, ne_eqb}
 use Rattle.board.specs.declared.contract.Board.{Ghosts}
@@ -14,7 +14,7 @@ use Rattle.opcodes.specs.Rules.{Lawful}
 use Rattle.opcodes.proofs.Keeps.{keeps}
 use Rattle.part.specs.Layout.{executable}
 use Rattle.step.specs.declared.action.Action.{Action}
-use Rattle.step.specs.declared.action.Action.TheVariants.{External, Timer, Idle, IllegalAddress}
+use Rattle.step.specs.declared.action.Action.TheVariants.{External, Timer, Idle}
 use Rattle.step.specs.declared.answer.StepAnswer.{StepAnswer}
 use Rattle.step.specs.Action.{Affordable, action_of, external_due, timer_due, rests, instruction_by, instruction_in}
 use Rattle.step.specs.Step.{Stepped, stepped, worked, worked_by, answered}

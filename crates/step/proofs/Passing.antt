@@ -1,5 +1,5 @@
 -- What the cycles of a step and its reset keep.
-use Rattle.std.proofs.Common.{◌≡◌, ℕ, zero, suc, ◌+◌, ◌<◌, ◌≤◌, Bool, true, false, cond, not, ◌&&◌, ◌||◌, eqb, leb, sym, refl, ap, ◌∙◌, arith}
+use Rattle.std.proofs.Common.{◌≡◌, ℕ, zero, suc, ◌<◌, ◌≤◌, Bool, true, false, cond, not, ◌&&◌, ◌||◌, eqb, leb, refl, ap, ◌∙◌, arith}
 use mathlib.Core.Path.{subst⁻¹}
 use Rattle.std.proofs.lemmas.Bool.{false≢true, leb-false, or_right}
 use Rattle.chip.specs.declared.state.Chip.{Chip}
@@ -7,7 +7,6 @@ use Rattle.chip.specs.declared.state.Mode.{Mode}
 use Rattle.chip.specs.declared.state.Mode.TheVariants.{Running, Waiting, Stopped}
 use Rattle.chip.specs.Reset.{reset}
 use Rattle.cycles.proofs.Cycles.{Leaves}
-use Rattle.part.specs.declared.rom.Rom.{Rom}
 use Rattle.part.specs.Rom.{copen}
 use Rattle.timer.specs.declared.state.Timer.{Timer}
 use Rattle.timer.specs.Clock.{clock_span, risen, risen_by}

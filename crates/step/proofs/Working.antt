@@ -1,5 +1,5 @@
 -- The parts of a step put together.
-use Rattle.std.proofs.Common.{◌≡◌, ℕ, Some, None, sym, refl, ap, ◌∙◌}
+use Rattle.std.proofs.Common.{◌≡◌, Some, None, sym, ap, ◌∙◌}
 use Rattle.board.specs.declared.contract.Board.{Ghosts}
 use Rattle.board.specs.declared.reading.Reading.{Reading}
 use Rattle.chip.specs.declared.state.Chip.{Chip}

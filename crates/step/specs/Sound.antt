@@ -1,7 +1,6 @@
 -- What every chip keeps between steps.
 use Rattle.std.specs.Prelude.{◌≡◌, ℕ, ◌<◌, ◌≤◌, Bool, true, not, ◌&&◌, ◌||◌, ◌==◌}
 use Rattle.chip.specs.declared.state.Chip.{Chip}
-use Rattle.chip.specs.declared.state.Interrupt.{Interrupt}
 use Rattle.chip.specs.declared.state.Mode.{Mode}
 use Rattle.chip.specs.declared.state.Mode.TheVariants.{Running, Waiting, Stopped}
 use Rattle.chip.specs.declared.state.Port.{Port}

@@ -1,6 +1,6 @@
 -- The words of a line that is cut at its first space.
-use Rattle.std.proofs.Common.{◌≡◌, ℕ, zero, suc, ◌+◌, ◌-◌, ◌<◌, true, false, cond, eqb, List, [], ◌∷◌, ◌++◌, length, get_or, Some, None, Option, refl, ap, ◌∙◌, arith, ne_eqb}
-use Rattle.text.specs.Words.{words, longer, nth}
+use Rattle.std.proofs.Common.{◌≡◌, ℕ, suc, ◌<◌, false, eqb, List, [], ◌∷◌, ◌++◌, length, get_or, Some, None, refl, arith, ne_eqb}
+use Rattle.text.specs.Words.{words, nth}
 
 abbrev pub NoSpace : List ℕ → Type 0
 NoSpace xs = (i : ℕ) → i < length xs → get_or xs i 0 ≡ 32 → ⊥

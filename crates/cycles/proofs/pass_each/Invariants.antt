@@ -1,5 +1,5 @@
 use mathlib.Core.Path.{◌≡◌}
-use Prim.Native.Nat.{◌+◌, ◌-◌, ◌≤◌, ◌<◌, ◌^◌}
+use Prim.Native.Nat.{◌-◌}
 use Rattle.cycles.specs.Cycles.{cycled, Room}
 use Rattle.cycles.proofs.pass_each.Given as goal
 

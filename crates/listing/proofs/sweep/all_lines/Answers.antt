@@ -1,6 +1,5 @@
-use Rattle.std.proofs.Common.{◌≡◌, ◌+◌, ◌-◌, ◌++◌, vec_items, sym, ap, ◌∙◌}
+use Rattle.std.proofs.Common.{vec_items, sym, ◌∙◌}
 use Rattle.part.specs.Layout.{address_space}
-use Rattle.listing.specs.Sweep.{lines_from}
 use Rattle.listing.proofs.Lists.{lines_more, lines_stop, lines_end}
 use Rattle.listing.proofs.sweep.all_lines.Goals as goal
 

@@ -1,4 +1,4 @@
-use Rattle.std.proofs.Common.{◌≡◌, ℕ, suc, ◌+◌, ◌-◌, sym, ap, ◌∙◌, arith}
+use Rattle.std.proofs.Common.{◌≡◌, suc, ◌+◌, ◌-◌, sym, ap, ◌∙◌, arith}
 use Rattle.listing.specs.Sweep.{sweep_end, past_zeros}
 use Rattle.listing.proofs.Zeros.{zero_more, zero_stops, zero_ends}
 use Rattle.listing.proofs.sweep.past_zeros.Goals as goal

@@ -1,4 +1,4 @@
-use Rattle.std.proofs.Common.{◌≡◌, ◌<◌, Some, None, Option, sym, refl, ap, ◌∙◌, rules}
+use Rattle.std.proofs.Common.{◌≡◌, Some, None, Option, sym, refl, ap, ◌∙◌, rules}
 use mathlib.Core.Path.{subst⁻¹}
 use Rattle.opcodes.specs.declared.addressing.Row.{Row}
 use Rattle.opcodes.specs.declared.table.Cell.{Cell}

@@ -1,4 +1,4 @@
-use Rattle.std.proofs.Common.{◌≡◌, ◌+◌, ◌-◌, Ok, Err, sym, ap, ◌∙◌, arith}
+use Rattle.std.proofs.Common.{◌≡◌, ◌+◌, ◌-◌, Ok, Err, sym, ◌∙◌, arith}
 use Rattle.machine.specs.State.{state}
 use Rattle.operate.specs.Steps.{steps_more}
 use Rattle.operate.proofs.InARow.{first, none}

@@ -1,6 +1,6 @@
-use Rattle.std.proofs.Common.{◌≡◌, true, eqb, length, sym, refl, ◌∙◌, eq-eqb}
+use Rattle.std.proofs.Common.{sym, ◌∙◌}
 use Rattle.std.proofs.lemmas.List.{at_drop_all}
-use Rattle.part.specs.Image.{clean_from, image_checked}
+use Rattle.part.specs.Image.{clean_from}
 use Rattle.part.proofs.Images.{clean_more, clean_stops, of_length}
 use Rattle.part.proofs.image.check_image.Goals as goal
 

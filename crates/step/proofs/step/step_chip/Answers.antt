@@ -1,4 +1,4 @@
-use Rattle.std.proofs.Common.{◌≡◌, sym, ◌∙◌}
+use Rattle.std.proofs.Common.{sym, ◌∙◌}
 use Rattle.step.proofs.Working.{made, not_made}
 use Rattle.step.proofs.step.step_chip.Goals as goal
 

@@ -1,14 +1,14 @@
-use Rattle.std.proofs.Common.{◌≡◌, ◌+◌, ◌<◌, ◌≤◌, sym, refl, ap, ◌∙◌, arith}
+use Rattle.std.proofs.Common.{◌≡◌, ap, ◌∙◌, arith}
 use mathlib.Core.Path.{subst⁻¹}
 use Rattle.chip.specs.Pins.{outputs}
 use Rattle.cycles.specs.Cycles.{cycled}
 use Rattle.cycles.proofs.Cycles.{Leaves, cycled_leaves}
-use Rattle.step.specs.Action.{acted, cost_of, raises_clock}
+use Rattle.step.specs.Action.{cost_of, raises_clock}
 use Rattle.step.specs.Sound.{Sound}
-use Rattle.step.specs.Step.{informed, cause_of, reset_by}
+use Rattle.step.specs.Step.{informed}
 use Rattle.step.proofs.Acting.{acting_sound}
 use Rattle.step.proofs.Passing.{passing, closing}
-use Rattle.step.proofs.Working.{works, finish}
+use Rattle.step.proofs.Working.{works}
 use Rattle.step.proofs.step.work.Goals as goal
 
 pub pass_cycles-requires : goal.pass_cycles-requires

@@ -1,5 +1,4 @@
 use Rattle.std.proofs.Common.{◌≡◌, ◌+◌, ◌*◌, ◌<◌, length, drop, Some, None, vec_items, sym, ◌∙◌, arith, length-drop}
-use Rattle.text.specs.Hex.{pairs_after}
 use Rattle.text.proofs.Pairs.{pair_next, pairs_end, pairs_odd}
 use Rattle.text.proofs.hex.pairs_of.Goals as goal
 

@@ -1,7 +1,7 @@
-use Rattle.std.proofs.Common.{◌≡◌, ℕ, ◌+◌, ◌*◌, ◌<◌, ◌≤◌, List, [], ◌∷◌, length, get_or, Some, None, Option, sym, ap, ◌∙◌, arith}
+use Rattle.std.proofs.Common.{◌≡◌, ◌+◌, ◌*◌, ◌<◌, ◌≤◌, length, get_or, sym, ◌∙◌, arith}
 use borrow.Author.Tests.{eqb-false}
 use Rattle.std.proofs.lemmas.List.{at_drop_all}
-use Rattle.text.specs.Numbers.{number_of, digits_after, appended}
+use Rattle.text.specs.Numbers.{digits_after, appended}
 use Rattle.text.proofs.Digits.{digit_more, no_digit, too_large, of_some}
 use Rattle.text.proofs.number.number.Goals as goal
 

@@ -1,4 +1,4 @@
-use Rattle.std.proofs.Common.{◌≡◌, ◌+◌, ◌-◌, ◌<◌, ◌≤◌, sym, refl, ap, ◌∙◌, arith}
+use Rattle.std.proofs.Common.{◌∙◌, arith}
 use Rattle.machine.specs.declared.answer.RunEnd.TheVariants.{Reached, Stuck}
 use Rattle.machine.specs.State.{state}
 use Rattle.machine.proofs.Running.{raised, run_on, run_stuck, run_reached, too_far, no_image, ran}

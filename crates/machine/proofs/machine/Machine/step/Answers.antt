@@ -1,4 +1,4 @@
-use Rattle.std.proofs.Common.{◌≡◌, ◌+◌, ◌≤◌, Some, None, sym, ap, ◌∙◌, subst, arith}
+use Rattle.std.proofs.Common.{Some, None, sym, ap, ◌∙◌, subst, arith}
 use Rattle.step.proofs.Costs.{Costs, AnswerCosts, answer_costs}
 use Rattle.machine.specs.State.{state}
 use Rattle.machine.proofs.Stepping.{forbidden, below_limit, goes_on, counting}
