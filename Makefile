@@ -1,9 +1,13 @@
-# run: proves and builds the bench program and runs the worked example; test: the gate.
-.PHONY: run test
+# run, run-machine: prove and build a bench program, and run its worked example; test: the gate.
+.PHONY: run run-machine test
 
 run:
-	rt check bench
-	cd crates/bench/data && ../../../target/bin/bench < ../stdin
+	cd crates/bench && rt run < /dev/null
+	cd crates/bench/data && ../out/bench < ../stdin
+
+run-machine:
+	cd crates/machine_bench && rt run < /dev/null
+	cd crates/machine_bench/data && ../out/machine_bench < ../stdin
 
 test:
-	rt ci
+	.ci/run
