@@ -1,4 +1,4 @@
-// The bench program but for its entry point: reads a script and answers each call, line by line.
+// The bench program with machines but for its entry point: reads a script and answers each call, line by line.
 #![tactic(auto)]
 
 ghost use Rattle.std.specs.Prelude.{◌≡◌, IsUtf8};

@@ -1,4 +1,4 @@
-// The bench program: answers a script on standard input. Its own script here is the worked example of the README.
+// The bench program with machines: answers a script on standard input. Its own script here is a worked example of the README.
 #![tactic(auto)]
 
 fn main(rt: HostRuntime) -> anyhow::Result<()> {
