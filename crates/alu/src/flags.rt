@@ -6,7 +6,7 @@ use crate::bit::is_set;
 use opcodes::Bit;
 
 // Half carry, interrupt mask, negative, zero, carry.
-#[derive(Clone, Copy)]
+#[derive(Clone, Copy, Default)]
 pub struct Flags {
     pub h: bool,
     pub i: bool,

@@ -13,7 +13,7 @@ pub struct Reading {
 }
 
 // Directions (1 for an output) and driven levels, which are latch AND direction.
-#[derive(Clone, Copy, PartialEq, Eq, Debug)]
+#[derive(Clone, Copy, PartialEq, Eq, Debug, Default)]
 pub struct Outputs {
     pub direction_a: u8,
     pub driven_a: u8,

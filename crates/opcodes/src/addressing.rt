@@ -26,3 +26,11 @@ pub struct Row {
     pub length: u8,
     pub cycles: u8,
 }
+
+// An instruction: its row, and the two bytes after its code; the row's length says how many of them are its own.
+#[derive(Clone, Copy)]
+pub struct Instruction {
+    pub row: Row,
+    pub first: u8,
+    pub second: u8,
+}

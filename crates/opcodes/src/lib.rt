@@ -8,7 +8,7 @@ mod operand;
 mod operation;
 mod table;
 
-pub use addressing::{Addressing, Row};
+pub use addressing::{Addressing, Instruction, Row};
 pub use operand::Operand;
 pub use operation::{
     Bit, Condition, Control, Operation, ReadModifyWrite, Register, RegisterMemory,
