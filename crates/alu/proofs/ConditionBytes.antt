@@ -1,9 +1,9 @@
 -- The condition byte and the flags tell each other.
-use Rattle.std.proofs.Common.{◌≡◌, ℕ, ◌+◌, ◌-◌, ◌/◌, ◌%◌, ◌<◌, ◌≤◌, Bool, true, false, eqb, refl, arith}
+use Rattle.std.proofs.Common.{◌≡◌, ℕ, ◌/◌, ◌%◌, ◌<◌, ◌≤◌, Bool, true, false, eqb, arith}
+use Rattle.std.proofs.lemmas.Bool.Decides.{nat_tests}
 use Rattle.alu.specs.declared.flags.Flags.{Flags}
 use Rattle.alu.specs.Bit.{one_if}
 use Rattle.alu.specs.Flags.{condition_byte, flags_in}
-use Rattle.alu.proofs.Every.{same}
 
 one_below : (b : Bool) → one_if b < 2
 one_below true = omega arith
@@ -29,9 +29,14 @@ flags_back f =
       c = flag_of (condition_byte f / 1 % 2) f.c (omega arith) j;
     }
 
--- tested at each condition byte
+digit_back : (d : ℕ) → d < 2 → one_if (eqb d 1) ≡ d
+digit_back d h = grind (arith, nat_tests)
+
 pub byte_back : (v : ℕ) → 224 ≤ v → v < 256 → condition_byte (flags_in v) ≡ v
 byte_back v low high =
-    let k : v - 224 < 32 = omega arith in
-    let e : 224 + (v - 224) ≡ v = omega arith in
-    rw e at (same (λ k. condition_byte (flags_in (224 + k))) (λ k. 224 + k) 32 refl (v - 224) k)
+    let h = digit_back (v / 16 % 2) (omega arith) in
+    let i = digit_back (v / 8 % 2) (omega arith) in
+    let n = digit_back (v / 4 % 2) (omega arith) in
+    let z = digit_back (v / 2 % 2) (omega arith) in
+    let c = digit_back (v / 1 % 2) (omega arith) in
+    rw (h, i, n, z, c) (omega arith)

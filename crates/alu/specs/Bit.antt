@@ -1,18 +1,6 @@
 -- Bits of a byte, by their place; bit 0 is the lowest.
 use Rattle.std.specs.Prelude.{ℕ, ◌-◌, ◌^◌, Bool, cond, bit_and, bit_or}
-use Rattle.opcodes.specs.declared.operation.Bit.{Bit}
-use Rattle.opcodes.specs.declared.operation.Bit.TheVariants.{Bit0, Bit1, Bit2, Bit3, Bit4, Bit5, Bit6, Bit7}
-
--- the place of a bit that an instruction names
-abbrev pub bit_number : Bit → ℕ
-bit_number Bit0 = 0
-bit_number Bit1 = 1
-bit_number Bit2 = 2
-bit_number Bit3 = 3
-bit_number Bit4 = 4
-bit_number Bit5 = 5
-bit_number Bit6 = 6
-bit_number Bit7 = 7
+pub use Rattle.opcodes.specs.Operand.{bit_number}
 
 -- bit n set, the others kept
 abbrev pub with_bit : ℕ → ℕ → ℕ

@@ -1,39 +1,22 @@
 // One bit of a byte.
-ghost use Rattle.std.specs.Prelude.{◌≡◌, ◌^◌, ◌<◌};
+ghost use Rattle.std.specs.Prelude.{◌≡◌, ◌^◌};
 ghost use Rattle.alu.specs.Bit.{bit_number, with_bit, without_bit};
 ghost use Rattle.bits.specs.Bits.{bit_at};
 
 use opcodes::Bit;
 
-// Its place, 0 to 7.
-fn number(bit: Bit) -> u8
-    ensures is { result ≡ bit_number bit }
-    ensures below { result < 8 }
-{
-    match bit {
-        Bit::Bit0 => 0,
-        Bit::Bit1 => 1,
-        Bit::Bit2 => 2,
-        Bit::Bit3 => 3,
-        Bit::Bit4 => 4,
-        Bit::Bit5 => 5,
-        Bit::Bit6 => 6,
-        Bit::Bit7 => 7,
-    }
-}
-
 // The byte with this bit alone: 1, 2, 4, .., 128.
 pub fn mask(bit: Bit) -> u8
     ensures { result ≡ 2 ^ bit_number bit }
 {
-    1 << number(bit)
+    1 << u8::from(bit)
 }
 
 // Whether the byte has this bit.
 pub fn is_set(bit: Bit, byte: u8) -> bool
     ensures { result ≡ bit_at byte (bit_number bit) }
 {
-    (byte >> number(bit)) % 2 == 1
+    bits::bit(byte, u8::from(bit))
 }
 
 // The byte with this bit set and the others kept.

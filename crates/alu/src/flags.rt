@@ -16,7 +16,7 @@ pub struct Flags {
 }
 
 impl Flags {
-    // 111HINZC, bit 7 first.
+    // 111HINZC, bit 7 first. The name says which byte, as a From would not.
     pub fn condition_byte(self) -> u8
         ensures { result ≡ condition_byte self }
     {

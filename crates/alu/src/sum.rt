@@ -18,7 +18,7 @@ pub fn add(a: u8, b: u8, carry: bool) -> Sum
     let one = u8::from(carry);
     let value = a.wrapping_add(b).wrapping_add(one);
     let half = a % 16 + b % 16 + one >= 16;
-    let carry = a as u16 + b as u16 + one as u16 >= 256;
+    let carry = u16::from(a) + u16::from(b) + u16::from(one) >= 256;
     Sum { value, half, carry }
 }
 
@@ -28,7 +28,7 @@ pub fn subtract(a: u8, b: u8, borrow: bool) -> Outcome
 {
     let one = u8::from(borrow);
     let value = a.wrapping_sub(b).wrapping_sub(one);
-    let carry = (a as u16) < b as u16 + one as u16;
+    let carry = u16::from(a) < u16::from(b) + u16::from(one);
     Outcome { value, carry }
 }
 
@@ -36,6 +36,6 @@ pub fn subtract(a: u8, b: u8, borrow: bool) -> Outcome
 pub fn multiply(a: u8, x: u8) -> (u8, u8)
     ensures { result ≡ product_of a x }
 {
-    let product = a as u16 * x as u16;
-    ((product / 256) as u8, (product % 256) as u8)
+    let [high, low] = (u16::from(a) * u16::from(x)).to_be_bytes();
+    (high, low)
 }

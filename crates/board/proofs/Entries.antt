@@ -1,55 +1,28 @@
 -- Facts about a schedule's entries.
-use Rattle.std.proofs.Common.{◌≡◌, ℕ, suc, ◌+◌, ◌<◌, ◌≤◌, min, Bool, true, false, cond, ◌&&◌, ltb, leb, List, [], ◌∷◌, length, get_or, drop, Some, None, Ok, Option, sym, refl, ap, ◌∙◌, inl, inr, arith, Bor}
+use Rattle.std.proofs.Common.{◌≡◌, ℕ, suc, ◌+◌, ◌-◌, ◌<◌, ◌≤◌, min, Bool, true, false, cond, ◌&&◌, ltb, leb, List, [], ◌∷◌, length, get_or, drop, take, slice_get, Some, None, Ok, Option, sym, refl, ap, ◌∙◌, inl, inr, arith, Bor}
 use Rattle.std.proofs.lemmas.Bool.{ltb-true, leb-true, le-leb, lt-leb, and_parts, cases_lt, cond-true, cond-false}
-use Rattle.std.proofs.lemmas.List.{drop_more, drop_all}
+use Rattle.std.proofs.lemmas.List.{drop_more}
+use Rattle.std.proofs.lemmas.List.Folds.{length-prefix_len}
+use Rattle.std.specs.List.{prefix_len}
 use Rattle.board.specs.declared.reading.Reading.{Reading}
 use Rattle.board.specs.declared.schedule.Entry.{Entry}
 use Rattle.board.specs.Reading.{ranged, InRange, on_pins}
-use Rattle.board.specs.Schedule.{cycle_limit, moment, reading_at, passed, last_at, has_come, calm_after, calm_before, good, bad_from, first_bad, first_reading, schedule_of}
+use Rattle.board.specs.Schedule.{cycle_limit, moment, reading_at, passed, last_at, has_come, calm_before, good, bad_from, first_bad, first_reading, schedule_of}
 use Rattle.board.proofs.Pins.{pins_same}
 
 -- what a read past a list's end would give
 abbrev pub no_entry : Entry
 no_entry = record { cycle = 0; reading = record { level_a = 0; open_a = 0; level_b = 0; open_b = 0; irq = 0 } }
 
--- one turn of the walk: the entry at n has come, or it has not or there is none
-module _ (es : List Entry) (n t : ℕ) (d : Reading) where
-  pub come : n < length es → has_come t (get_or es n no_entry) ≡ true → (passed (drop n es) t ≡ suc (passed (drop (n + 1) es) t)) × (reading_at d (drop n es) t ≡ reading_at (get_or es n no_entry).reading (drop (n + 1) es) t)
-  unfolding passed reading_at
-  come h b = (
-    ap (λ x. passed x t) (drop_more es n no_entry h) ∙ cond-true _ _ _ b,
-    ap (λ x. reading_at d x t) (drop_more es n no_entry h) ∙ cond-true _ _ _ b,
-  )
-
-  pub late : (n < length es → has_come t (get_or es n no_entry) ≡ false) → (passed (drop n es) t ≡ 0) × (reading_at d (drop n es) t ≡ d)
-  unfolding passed reading_at
-  late h = elim (cases_lt n (length es)) [
-    | inl lt ↦ (
-      ap (λ x. passed x t) (drop_more es n no_entry lt) ∙ cond-false _ _ _ (h lt),
-      ap (λ x. reading_at d x t) (drop_more es n no_entry lt) ∙ cond-false _ _ _ (h lt),
-    )
-    | inr ge ↦ (ap (λ x. passed x t) (drop_all n es ge), ap (λ x. reading_at d x t) (drop_all n es ge))
-  ]
-
--- how long it is calm before the entry at n, or past the last one
-module _ (es : List Entry) (n at : ℕ) where
-  pub calm_here : n < length es → calm_before at (drop n es) ≡ calm_after at (get_or es n no_entry)
-  calm_here lt = ap (calm_before at) (drop_more es n no_entry lt)
-
-  pub calm_past : length es ≤ n → calm_before at (drop n es) ≡ 65535
-  calm_past ge = ap (calm_before at) (drop_all n es ge)
-
--- nothing changes while the entry at n does not come
-pub unchanged : (es : List Entry) (n at k : ℕ) (d : Reading) → (n < length es → k ≤ calm_after at (get_or es n no_entry)) → reading_at d (drop n es) (moment at k) ≡ reading_at d (drop n es) (moment at 0)
-unchanged es n at k d h =
-    let due = (get_or es n no_entry).cycle in
-    let same : k ≡ 0 → reading_at d (drop n es) (moment at k) ≡ reading_at d (drop n es) (moment at 0) = λ z. ap (λ m. reading_at d (drop n es) (moment at m)) z in
-    let held : (n < length es → (at < due) × (at + k < due)) → reading_at d (drop n es) (moment at k) ≡ reading_at d (drop n es) (moment at 0) =
-    λ far. (late es n (moment at k) d (λ lt. let f = far lt in lt-leb due (moment at k) (omega arith))).1
-    ∙ sym (late es n (moment at 0) d (λ lt. let f = far lt in lt-leb due (moment at 0) (omega arith))).1 in
-    elim (cases_lt n (length es)) [
-      | inr ge ↦ held (λ lt. absurd (omega arith))
-      | inl lt ↦ let m = h lt in elim (cases_lt at due) [ inl above ↦ held (λ _. (above, omega arith)) | inr come ↦ same (omega arith) ]
+-- nothing changes while the first entry does not come
+pub unchanged : (es : List Entry) (at k : ℕ) (d : Reading) → k ≤ calm_before at es → reading_at d es (moment at k) ≡ reading_at d es (moment at 0)
+unfolding reading_at
+unchanged [] at k d h = refl
+unchanged (e ∷ es) at k d h =
+    let same : k ≡ 0 → reading_at d (e ∷ es) (moment at k) ≡ reading_at d (e ∷ es) (moment at 0) = λ z. ap (λ m. reading_at d (e ∷ es) (moment at m)) z in
+    elim (cases_lt at e.cycle) [
+      | inl above ↦ cond-false _ _ _ (lt-leb e.cycle (moment at k) (omega arith)) ∙ sym (cond-false _ _ _ (lt-leb e.cycle (moment at 0) (omega arith)))
+      | inr past ↦ same (omega arith)
     ]
 
 none_bad : (b : Bool) (i : ℕ) (x : Option ℕ) → cond b x (Some i) ≡ None → (b ≡ true) × (x ≡ None)
@@ -139,3 +112,52 @@ first_is (e ∷ es) = refl
 -- a list with no bad entry makes a schedule
 pub of_good : (entries : Bor (List Entry)) → first_bad entries.now ≡ None → Ok (record { entries = entries; at = 0; next = 1; current = (get_or entries.now 0 no_entry).reading }) ≡ schedule_of entries
 of_good entries h = rw (h, first_is entries.now)
+
+-- the walk in the library's words: how many come
+pub passed_is : (es : List Entry) (t : ℕ) → length (take (prefix_len (has_come t) es) es) ≡ passed es t
+unfolding passed
+passed_is es t = length-prefix_len (has_come t) es ∙ same es where
+  same : (es : List Entry) → prefix_len (has_come t) es ≡ passed es t
+  same [] = refl
+  same (e ∷ es) = let i : 1 + prefix_len (has_come t) es ≡ suc (passed es t) = omega (arith, same es) in ap (λ n. cond (has_come t e) n 0) i
+
+pub passed_within : (es : List Entry) (t : ℕ) → passed es t ≤ length es
+unfolding passed
+passed_within [] t = omega arith
+passed_within (e ∷ es) t = elim (has_come t e) as (λ b. cond b (suc (passed es t)) 0 ≤ suc (length es)) [ true ↦ omega (arith, passed_within es t) | false ↦ omega arith ]
+
+-- and the reading of the last of them
+pub last_in : Reading → List Entry → Reading
+last_in d [] = d
+last_in d (e ∷ es) = last_in e.reading es
+
+reading_is : (d : Reading) (es : List Entry) (t : ℕ) → last_in d (take (passed es t) es) ≡ reading_at d es t
+unfolding passed reading_at last_in
+reading_is d [] t = refl
+reading_is d (e ∷ es) t = elim (has_come t e) as (λ b. last_in d (take (cond b (suc (passed es t)) 0) (e ∷ es)) ≡ cond b (reading_at e.reading es t) d) [ true ↦ reading_is e.reading es t | false ↦ refl ]
+
+pub shown_is : (d : Reading) (es : List Entry) (t n : ℕ) → n ≡ passed es t → last_in d (take n es) ≡ reading_at d es t
+shown_is d es t n h = ap (λ n. last_in d (take n es)) h ∙ reading_is d es t
+
+last_some : (d : Reading) (e : Entry) (es : List Entry) (x : Entry) → Some x ≡ slice_get (e ∷ es) (length es) → x.reading ≡ last_in d (e ∷ es)
+unfolding last_in
+last_some d e [] x h = let y : x ≡ e = cc in ap (λ y. y.reading) y
+last_some d e (f ∷ es) x h = last_some e.reading f es x h
+
+last_none : (e : Entry) (es : List Entry) → None ≡ slice_get (e ∷ es) (length es) → ◌≡◌ {A = ℕ} 0 1
+last_none e [] h = cc
+last_none e (f ∷ es) h = last_none f es h
+
+last_place : (e : Entry) (es : List Entry) → slice_get (e ∷ es) (length (e ∷ es) - 1) ≡ slice_get (e ∷ es) (length es)
+last_place e es = let n : length (e ∷ es) - 1 ≡ length es = omega arith in ap (slice_get (e ∷ es)) n
+
+-- the last of these entries
+pub is_last : (d : Reading) (es : List Entry) (x : Entry) → Some x ≡ slice_get es (length es - 1) → x.reading ≡ last_in d es
+is_last d [] x h = let z : ◌≡◌ {A = ℕ} 0 1 = cc in absurd (omega arith)
+is_last d (e ∷ es) x h = last_some d e es x (h ∙ last_place e es)
+
+-- there is none
+pub is_none : (d : Reading) (es : List Entry) → None ≡ slice_get es (length es - 1) → d ≡ last_in d es
+unfolding last_in
+is_none d [] h = refl
+is_none d (e ∷ es) h = let z = last_none e es (h ∙ last_place e es) in absurd (omega arith)

@@ -1,4 +1,5 @@
 pub mod Reading
+pub mod Refused
 pub mod Contract
 pub mod Switches
 pub mod Schedule

@@ -5,6 +5,7 @@ ghost use Rattle.board.specs.LawsKept.{matrix_laws};
 
 use crate::contract::Board;
 use crate::reading::{Outputs, Reading};
+use bits::bit;
 
 // Bit 4r + c of keys is the pressed key of row r and column c.
 #[derive(Clone, Copy)]
@@ -18,14 +19,14 @@ fn row_of(keys: u16, rows: u8, r: u8) -> u8
     requires { r < 4 }
     ensures { result ≡ row keys rows r }
 {
-    if (rows >> r) % 2 == 1 {
+    if bit(rows, r) {
         ((keys >> (4 * r)) % 16) as u8
     } else {
         0
     }
 }
 
-// The columns that a pressed key of any row joins with a row at 1.
+// The columns that a pressed key of any row joins with a row at 1. There are four rows, and a fold over them is no shorter.
 fn columns_of(keys: u16, rows: u8) -> u8
     ensures { result ≡ columns keys rows }
 {
@@ -37,13 +38,10 @@ impl Matrix {
     pub fn new(keys: u16) -> Matrix
         ensures { result ≡ matrix_of keys }
     {
-        let outputs = Outputs {
-            direction_a: 0,
-            driven_a: 0,
-            direction_b: 0,
-            driven_b: 0,
-        };
-        Matrix { keys, outputs }
+        Matrix {
+            keys,
+            outputs: Outputs::default(),
+        }
     }
 }
 

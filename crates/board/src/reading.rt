@@ -1,6 +1,8 @@
 // What a board shows at the pins, and what the microcontroller drives there.
-ghost use Rattle.std.specs.Prelude.{◌≡◌};
-ghost use Rattle.board.specs.Reading.{ranged, on_pins};
+ghost use Rattle.std.specs.Prelude.{◌≡◌, Some};
+ghost use Rattle.board.specs.Reading.{ranged, on_pins, reading_text};
+
+use std::fmt;
 
 // Levels of ports A and B and of IRQ; a set open bit means that nothing drives that pin.
 #[derive(Clone, Copy, PartialEq, Eq, Debug)]
@@ -39,5 +41,21 @@ impl Reading {
             irq: self.irq % 2,
             ..self
         }
+    }
+}
+
+// The five numbers, with single spaces.
+impl fmt::Display for Reading {
+    ghost output = { λ reading. Some (reading_text reading) };
+
+    fn fmt<W: fmt::Write>(&self, f: &mut fmt::Formatter<W>) -> fmt::Result {
+        let Reading {
+            level_a,
+            open_a,
+            level_b,
+            open_b,
+            irq,
+        } = *self;
+        write!(f, "{level_a} {open_a} {level_b} {open_b} {irq}")
     }
 }

@@ -1,6 +1,6 @@
 // A board that follows a list of readings in the host's memory.
-ghost use Rattle.std.specs.Prelude.{◌≡◌, ℕ, ◌+◌, ◌≤◌, drop, IfOk};
-ghost use Rattle.board.specs.Schedule.{has_come, calm_after, good, bad_from, first_bad, passed, reading_at, last_at, schedule_shows, schedule_advanced, schedule_told, schedule_quiet, schedule_of};
+ghost use Rattle.std.specs.Prelude.{◌≡◌, ℕ, ◌≤◌, IfOk};
+ghost use Rattle.board.specs.Schedule.{ahead, has_come, calm_after, good, bad_from, first_bad, passed, reading_at, last_at, schedule_shows, schedule_advanced, schedule_told, schedule_quiet, schedule_of};
 ghost use Rattle.board.specs.LawsKept.{schedule_laws};
 
 use crate::contract::Board;
@@ -17,7 +17,7 @@ pub struct Entry {
     pub reading: Reading,
 }
 
-// The cycles advanced, the first entry still to come, and the reading until then.
+// The cycles advanced, the first entry still to come, and the reading until then. That entry is an index, since a slice of the rest would bring its address in memory into what advancing means.
 #[derive(Clone, Copy)]
 pub struct Schedule<'a> {
     entries: &'a [Entry],
@@ -38,10 +38,7 @@ impl Entry {
     fn calm_after(&self, at: u64) -> u16
         ensures { result ≡ calm_after at self.now }
     {
-        self.cycle
-            .saturating_sub(at)
-            .saturating_sub(1)
-            .min(u64::from(u16::MAX)) as u16
+        u16::try_from(self.cycle.saturating_sub(at).saturating_sub(1)).unwrap_or(u16::MAX)
     }
 
     // Whether its cycle is at least low and below limit, and its reading in range.
@@ -52,20 +49,25 @@ impl Entry {
     }
 }
 
-// The first entry that has not come by this cycle, and the reading of the one before.
-fn walk(entries: &[Entry], from: usize, current: Reading, at: u64) -> (usize, Reading)
-    ensures { (result.0 ≡ from + passed (drop from entries.now) at) × (result.1 ≡ reading_at current (drop from entries.now) at) }
+// How many of these entries have come by this cycle, up to the first that has not.
+fn passed(coming: &[Entry], at: u64) -> usize
+    ensures { result ≡ passed coming.now at }
 {
-    let mut next = from;
-    let mut shown = current;
-    while next < entries.len() && entries[next].has_come(at) {
-        shown = entries[next].reading;
-        next += 1;
-    }
-    (next, shown)
+    coming.iter().take_while(|entry| entry.has_come(at)).count()
 }
 
-// The index of the first bad entry: the first stands at cycle 0, and each other above the one before and below the limit.
+// So many, and the reading of the last of them.
+fn walk(coming: &[Entry], current: Reading, at: u64) -> (usize, Reading)
+    ensures { (result.0 ≡ passed coming.now at) × (result.1 ≡ reading_at current coming.now at) }
+{
+    let come = passed(coming, at);
+    match coming[..come].last() {
+        Some(entry) => (come, entry.reading),
+        None => (come, current),
+    }
+}
+
+// The index of the first bad entry: the first stands at cycle 0, and each other above the one before and below the limit. Both bounds change from entry to entry, so a chain would carry them as this loop does.
 fn first_bad(entries: &[Entry]) -> Option<usize>
     ensures { result ≡ bad_from 0 0 1 entries.now }
 {
@@ -100,6 +102,13 @@ impl<'a> Schedule<'a> {
             current: first.reading,
         })
     }
+
+    // The entries still to come.
+    fn coming(&self) -> &'a [Entry]
+        ensures { result.now ≡ ahead self.now }
+    {
+        self.entries.get(self.next..).unwrap_or_default()
+    }
 }
 
 impl<'a> Board for Schedule<'a> {
@@ -112,20 +121,15 @@ impl<'a> Board for Schedule<'a> {
     ghost laws = { schedule_laws };
 
     fn show(&self) -> Reading {
-        let (_, shown) = walk(
-            self.entries,
-            self.next,
-            self.current,
-            self.at.min(CYCLE_LIMIT),
-        );
+        let (_, shown) = walk(self.coming(), self.current, self.at.min(CYCLE_LIMIT));
         shown.on_pins()
     }
 
     fn advance(&mut self, n: u16) {
         let at = self.at.saturating_add(u64::from(n)).min(CYCLE_LIMIT);
-        let (next, current) = walk(self.entries, self.next, self.current, at);
+        let (come, current) = walk(self.coming(), self.current, at);
         self.at = at;
-        self.next = next;
+        self.next += come;
         self.current = current;
     }
 
@@ -134,9 +138,9 @@ impl<'a> Board for Schedule<'a> {
         ensures still { (k : ℕ) → k ≤ result → schedule_shows self.now k ≡ schedule_shows self.now 0 }
         ensures answer { result ≡ schedule_quiet self.now }
     {
-        match self.entries.get(self.next) {
-            Some(entry) => entry.calm_after(self.at),
-            None => u16::MAX,
+        match self.coming() {
+            [entry, ..] => entry.calm_after(self.at),
+            [] => u16::MAX,
         }
     }
 

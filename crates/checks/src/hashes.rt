@@ -1,7 +1,7 @@
 // Known hashes, and digits in hexadecimal.
 use std::test::Fail;
 use text::fnv::{fnv_from, fnv_of};
-use text::hex_text::{HexBytes, HexQuad};
+use text::hex_text::HexBytes;
 
 #[test]
 fn known_hashes(rt: HostRuntime) {
@@ -18,7 +18,10 @@ fn known_hashes(rt: HostRuntime) {
 #[test]
 fn digits_are_in_lower_case(rt: HostRuntime) -> Result<(), Fail> {
     let heap = rt.alloc();
-    assert_eq!(rt; HexQuad(0x0A1E).to_string(heap)?.as_str(), "00000a1e");
+    assert_eq!(rt;
+        format!(in heap; "{:08x}", 0x0A1E_u32)?.as_str(),
+        "00000a1e"
+    );
     assert_eq!(rt; HexBytes(&[0x00, 0xA5]).to_string(heap)?.as_str(), "00a5");
     Ok(())
 }

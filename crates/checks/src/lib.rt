@@ -13,3 +13,5 @@ mod listing_text;
 mod opcode_rows;
 #[cfg(test)]
 mod script_lines;
+#[cfg(test)]
+mod sessions;

@@ -6,10 +6,7 @@ use std::test::Fail;
 // The line that the listing of these bytes at $0300 shows from this address on.
 fn line_from(heap: Global, code: &[u8; 4], from: u16) -> Result<String, AllocError> {
     let mut image = [0u8; 2048];
-    image[0x300] = code[0];
-    image[0x301] = code[1];
-    image[0x302] = code[2];
-    image[0x303] = code[3];
+    image[0x300..0x304].copy_from_slice(code);
     match next_line(&image, from) {
         Some(line) => line.text(heap),
         None => String::from_str(heap, "none"),

@@ -1,5 +1,5 @@
 // Known rows, and known lines of a listing.
-use opcodes::row;
+use opcodes::{Instruction, row};
 use std::alloc::Global;
 use std::process::Abort;
 use std::test::Fail;
@@ -21,7 +21,7 @@ fn lists(
     text: &str,
 ) -> Result<(), Fail> {
     let row = row(code).ok_or("no instruction")?;
-    let operand = row.operand(first, second, 0x0312);
+    let operand = Instruction { row, first, second }.operand(0x0312);
     let line = format!(in heap; "{row} {operand}")?;
     assert!(rt; line.as_str() == text);
     Ok(())

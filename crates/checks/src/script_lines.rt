@@ -7,14 +7,6 @@ use text::hex::bytes_of;
 use text::line::{content, is_skipped};
 use text::word::word_at;
 
-// Why the line is no call.
-fn problem(line: &str) -> Option<Problem> {
-    match parse_call(line) {
-        Ok(_) => None,
-        Err(problem) => Some(problem),
-    }
-}
-
 #[test]
 fn calls_are_told_by_name(rt: HostRuntime) {
     assert!(rt; matches!(parse_call("bshow"), Ok(Call::OfBoard(BoardCall::Show))));
@@ -43,26 +35,41 @@ fn calls_are_told_by_name(rt: HostRuntime) {
 
 #[test]
 fn other_lines_say_what_is_wrong(rt: HostRuntime) {
-    assert_eq!(rt; problem("bshows"), Some(Problem::UnknownCall));
-    assert_eq!(rt; problem(" bshow"), Some(Problem::UnknownCall));
-    assert_eq!(rt; problem("bshow "), Some(Problem::ExtraArgument));
-    assert_eq!(rt; problem("badvance"), Some(Problem::MissingArgument));
-    assert_eq!(rt; problem("badvance 65536"), Some(Problem::BadNumber));
-    assert_eq!(rt; problem("badvance -1"), Some(Problem::BadNumber));
+    assert_eq!(rt; parse_call("bshows").err(), Some(Problem::UnknownCall));
+    assert_eq!(rt; parse_call(" bshow").err(), Some(Problem::UnknownCall));
+    assert_eq!(rt; parse_call("bshow ").err(), Some(Problem::ExtraArgument));
     assert_eq!(rt;
-        problem("bench switches 0 0 0 0"),
+        parse_call("badvance").err(),
         Some(Problem::MissingArgument)
     );
-    assert_eq!(rt; problem("bench matrix 12345"), Some(Problem::BadKeys));
-    assert_eq!(rt; problem("bench matrix 00FF"), Some(Problem::BadKeys));
-    assert_eq!(rt; problem("bench keyboard"), Some(Problem::UnknownBoard));
+    assert_eq!(rt;
+        parse_call("badvance 65536").err(),
+        Some(Problem::BadNumber)
+    );
+    assert_eq!(rt; parse_call("badvance -1").err(), Some(Problem::BadNumber));
+    assert_eq!(rt;
+        parse_call("bench switches 0 0 0 0").err(),
+        Some(Problem::MissingArgument)
+    );
+    assert_eq!(rt;
+        parse_call("bench matrix 12345").err(),
+        Some(Problem::BadKeys)
+    );
+    assert_eq!(rt;
+        parse_call("bench matrix 00FF").err(),
+        Some(Problem::BadKeys)
+    );
+    assert_eq!(rt;
+        parse_call("bench keyboard").err(),
+        Some(Problem::UnknownBoard)
+    );
 }
 
 #[test]
 fn an_entry_has_a_cycle_and_a_reading(rt: HostRuntime) -> Result<(), Fail> {
-    let Ok(entry) = parse_entry("18446744073709551615 1 2 3 4 5") else {
-        return Err(Fail::new("an entry"));
-    };
+    let entry = parse_entry("18446744073709551615 1 2 3 4 5")
+        .ok()
+        .ok_or("an entry")?;
     assert_eq!(rt; entry.cycle, u64::MAX);
     assert_eq!(rt; entry.reading.level_a, 1);
     assert_eq!(rt; entry.reading.irq, 5);
@@ -74,10 +81,7 @@ fn an_entry_has_a_cycle_and_a_reading(rt: HostRuntime) -> Result<(), Fail> {
 
 // How many bytes the word writes.
 fn byte_count(heap: Global, word: &str) -> Result<Option<usize>, AllocError> {
-    match bytes_of(heap, word)? {
-        Some(bytes) => Ok(Some(bytes.len())),
-        None => Ok(None),
-    }
+    Ok(bytes_of(heap, word)?.map(|bytes| bytes.len()))
 }
 
 #[test]

@@ -16,7 +16,7 @@ impl Interrupt {
 }
 
 impl Chip {
-    // So many cycles, with the same sample at the end of each; t rises unless it stands.
+    // So many cycles, with the same sample at the end of each; t rises unless it stands. That the timer runs is asked here, since as a ghost field of it the fact would bind each write to its public fields.
     pub fn pass(&mut self, rises: bool, active: bool, cycles: u32)
         requires { (Runs self.old.timer) × (cycles < 1024) }
         ensures { self.new ≡ passed rises active cycles self.old }

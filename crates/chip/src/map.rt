@@ -6,7 +6,7 @@ use part::layout::{
     EPROM_FIRST, EPROM_LAST, RAM_FIRST, RAM_LAST, VECTORS_FIRST, VECTORS_LAST, between, wrapped,
 };
 
-// A place of the chip; RAM, EPROM and vectors with the byte's place in them.
+// A place of the chip; RAM, EPROM and vectors with the byte's place in them. Nothing is one of them, since a read and a write treat it as they do others: it reads 0 and ignores a byte.
 #[derive(Clone, Copy)]
 pub enum Location {
     PortA,

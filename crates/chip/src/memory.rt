@@ -40,8 +40,8 @@ impl Chip {
         ensures { result ≡ read reading.now address self.now }
     {
         match locate(address) {
-            Location::Eprom(k) => self.rom.eprom[k as usize],
-            Location::Ram(k) => self.ram[k as usize],
+            Location::Eprom(k) => self.rom.eprom[usize::from(k)],
+            Location::Ram(k) => self.ram[usize::from(k)],
             Location::PortA => self.pins_a(reading),
             Location::PortB => self.pins_b(reading),
             Location::DirectionA => self.ports.a.direction,
@@ -50,7 +50,7 @@ impl Chip {
             Location::TimerCounter => self.timer.counter(),
             Location::InterruptControl => self.interrupt_control(),
             Location::Options => self.rom.options,
-            Location::Vectors(k) => self.rom.vectors[k as usize],
+            Location::Vectors(k) => self.rom.vectors[usize::from(k)],
             Location::PulldownA | Location::PulldownB | Location::Service | Location::Nothing => 0,
         }
     }
@@ -60,7 +60,7 @@ impl Chip {
         ensures { self.new ≡ written address byte self.old }
     {
         match locate(address) {
-            Location::Ram(k) => self.ram[k as usize] = byte,
+            Location::Ram(k) => self.ram[usize::from(k)] = byte,
             Location::PortA => self.ports.a.latch = byte,
             Location::PortB => self.ports.b.latch = byte % 64,
             Location::DirectionA => self.ports.a.direction = byte,

@@ -17,7 +17,7 @@ impl Port {
 }
 
 impl Chip {
-    // The levels of port A's pins.
+    // The levels of port A's pins. What it shares with port B is `Port::pins`; the rest is each port's own fields.
     pub fn pins_a(&self, reading: &Reading) -> u8
         ensures { result ≡ pins_a reading.now self.now }
     {

@@ -1,25 +1,13 @@
 // The chip as it is made, and its reset.
 ghost use Rattle.std.specs.Prelude.{◌≡◌};
-ghost use Rattle.chip.specs.Reset.{fresh, idle_port, port_reset, reset};
+ghost use Rattle.chip.specs.Reset.{fresh, port_reset, reset};
 
 use crate::state::{Chip, Interrupt, Mode, Port, Ports, Registers};
-use alu::flags::Flags;
 use part::layout::Vector;
 use part::rom::Rom;
 use timer::state::Timer;
 
 impl Port {
-    // All 0.
-    fn new() -> Port
-        ensures { result ≡ idle_port }
-    {
-        Port {
-            latch: 0,
-            direction: 0,
-            pulldown: 0,
-        }
-    }
-
     // Inputs with pulldowns; the latch stays.
     fn reset(&mut self)
         ensures { self.new ≡ port_reset self.old }
@@ -36,28 +24,12 @@ impl Chip {
     {
         Chip {
             registers: Registers {
-                a: 0,
-                x: 0,
                 sp: 255,
-                pc: 0,
-                flags: Flags {
-                    h: false,
-                    i: false,
-                    n: false,
-                    z: false,
-                    c: false,
-                },
+                ..Registers::default()
             },
-            ports: Ports {
-                a: Port::new(),
-                b: Port::new(),
-            },
-            timer: Timer::new(),
-            interrupt: Interrupt {
-                enable: false,
-                latch: false,
-                active: false,
-            },
+            ports: Ports::default(),
+            timer: Timer::default(),
+            interrupt: Interrupt::default(),
             mode: Mode::Running,
             ram: [0; 64],
             rom: Rom::blank(),

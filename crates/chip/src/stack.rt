@@ -10,7 +10,7 @@ impl Chip {
         ensures { self.new ≡ pushed byte self.old }
     {
         let sp = self.registers.sp;
-        self.ram[(sp % 64) as usize] = byte;
+        self.ram[usize::from(sp % 64)] = byte;
         self.registers.sp = 192 + (sp % 64 + 63) % 64;
     }
 
@@ -21,6 +21,6 @@ impl Chip {
     {
         let sp = 192 + (self.registers.sp % 64 + 1) % 64;
         self.registers.sp = sp;
-        self.ram[(sp % 64) as usize]
+        self.ram[usize::from(sp % 64)]
     }
 }

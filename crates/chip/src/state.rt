@@ -6,7 +6,7 @@ use alu::flags::Flags;
 use part::rom::Rom;
 use timer::state::Timer;
 
-#[derive(Clone, Copy)]
+#[derive(Clone, Copy, Default)]
 pub struct Registers {
     pub a: u8,
     pub x: u8,
@@ -16,21 +16,21 @@ pub struct Registers {
 }
 
 // A port: output latch, directions (1 for an output) and pulldown bits (0 for a pulldown that is on).
-#[derive(Clone, Copy)]
+#[derive(Clone, Copy, Default)]
 pub struct Port {
     pub latch: u8,
     pub direction: u8,
     pub pulldown: u8,
 }
 
-#[derive(Clone, Copy)]
+#[derive(Clone, Copy, Default)]
 pub struct Ports {
     pub a: Port,
     pub b: Port,
 }
 
 // The external interrupt: IRQE, the latch that an edge sets, and whether the input was active at the last sample.
-#[derive(Clone, Copy)]
+#[derive(Clone, Copy, Default)]
 pub struct Interrupt {
     pub enable: bool,
     pub latch: bool,
@@ -44,16 +44,12 @@ pub enum Mode {
     Stopped = 3,
 }
 
-impl Mode {
-    // Its published number.
-    pub fn number(self) -> u8
-        ensures { result ≡ mode_number self }
-    {
-        match self {
-            Mode::Running => 1,
-            Mode::Waiting => 2,
-            Mode::Stopped => 3,
-        }
+// Its published number.
+impl From<Mode> for u8 {
+    ghost from_gives = { λ mode number. number ≡ mode_number mode };
+
+    fn from(mode: Mode) -> u8 {
+        mode as u8
     }
 }
 

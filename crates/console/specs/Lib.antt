@@ -1,4 +1,1 @@
-pub mod Answers
-pub mod Alone
-pub mod Boards
-pub mod Session
+pub mod Request

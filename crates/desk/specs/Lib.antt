@@ -1,1 +1,4 @@
+pub mod Answers
 pub mod Operator
+pub mod Request
+pub mod Trace

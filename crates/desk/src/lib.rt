@@ -1,91 +1,81 @@
 // The bench program with machines but for its entry point: reads a script and answers each call, line by line.
 #![tactic(auto)]
 
-ghost use Rattle.std.specs.Prelude.{◌≡◌, IsUtf8};
-
-mod image;
+pub mod answer;
 mod operator;
+pub mod request;
 mod trace;
 
+use answer::{Answer, Failure};
 use board::any::AnyBoard;
-use board::contract::Board;
-use board::matrix::Matrix;
-use image::{list, load};
 use operator::Operator;
-use session::answer::{Answer, Failure};
+use request::{Request, hear};
+use session::image::{bytes_in, list};
+use session::lines::{each_line, print_answer};
 use session::reply::Reply;
 use session::session::Session;
-use std::io::{BufRead, BufReader};
-use text::line::content;
 
-// Tells up to so many steps, one line each, and answers how many they were or why no more were made.
-fn tell_steps<B: Board + Drop>(
-    rt: &HostRuntime,
-    operator: &mut Operator<B>,
-    most: u32,
-) -> anyhow::Result<Answer> {
-    if !operator.has_begun() {
-        return Ok(Answer::Failed(Failure::NoMachine));
-    }
-    for _ in 0..most {
-        match operator.trace_step(rt.alloc())? {
-            Ok(text) => rt.println(text)?,
-            Err(answer) => return Ok(answer),
-        }
-    }
-    Ok(Answer::Traced(most))
-}
-
-// Does what a line calls for, and answers it.
-fn answer(
+// Loads the image that a line gives.
+fn load(
     rt: &HostRuntime,
     line: &str,
-    reply: Reply,
     operator: &mut Operator<AnyBoard<'static>>,
-) -> anyhow::Result<Option<Answer>> {
-    Ok(match reply {
-        Reply::Nothing => None,
-        Reply::Said(answer) => Some(answer),
-        Reply::Listing => Some(list(rt, line)?),
-        Reply::Begin(board) => Some(operator.begin(board)),
-        Reply::Load => Some(load(rt, line, operator)?),
-        Reply::Call(call) => Some(operator.call(call)),
-        Reply::Trace(most) => Some(tell_steps(rt, operator, most)?),
+) -> anyhow::Result<Result<Answer, Failure>> {
+    Ok(match bytes_in(rt, line)? {
+        Ok(image) => operator.load_image(image.as_slice()),
+        Err(failure) => Err(failure.into()),
     })
 }
 
-// The line as text. One that is not UTF-8 is no call and no entry, and stands here as `?`; or it is a remark.
-fn text_of(line: &[u8]) -> &str
-    ensures { IsUtf8 line.now → result.now ≡ line.now }
-{
-    match std::str::from_utf8(line) {
-        Ok(text) => text,
-        Err(_) => match line {
-            [b'#', ..] => "#",
-            _ => "?",
-        },
+// Tells up to so many steps, one line each, and answers how many they were or why no more were made.
+fn tell_steps(
+    rt: &HostRuntime,
+    operator: &mut Operator<AnyBoard<'static>>,
+    most: u32,
+) -> anyhow::Result<Result<Answer, Failure>> {
+    if !operator.has_begun() {
+        return Ok(Err(Failure::NoMachine));
     }
+    for _ in 0..most {
+        match operator.trace_step() {
+            Ok(told) => rt.println(told.text(rt.alloc())?)?,
+            Err(failure) => return Ok(Err(failure)),
+        }
+    }
+    Ok(Ok(Answer::Traced(most)))
 }
 
-// Answers the script on standard input, up to its end. Nothing says that an input ends, so the lines are counted.
+// Does what a line calls for.
+fn respond(
+    rt: &HostRuntime,
+    line: &str,
+    request: Request,
+    operator: &mut Operator<AnyBoard<'static>>,
+) -> anyhow::Result<Result<Answer, Failure>> {
+    Ok(match request {
+        Request::OfScript(Reply::Said(answer)) => Ok(Answer::OfScript(answer)),
+        Request::OfScript(Reply::Listing) => list(rt, line)?
+            .map(Answer::OfScript)
+            .map_err(Failure::OfScript),
+        Request::OfScript(Reply::Begin(board)) => Ok(operator.begin(board)),
+        Request::Load => load(rt, line, operator)?,
+        Request::OfMachine(call) => operator.call(call),
+        Request::Trace(most) => tell_steps(rt, operator, most)?,
+    })
+}
+
+// Answers the script on standard input, up to its end.
 pub fn run(rt: &HostRuntime) -> anyhow::Result<()> {
-    let mut input = BufReader::new(rt.alloc(), rt.stdin())?;
-    let mut session = Session::new();
-    let mut operator = Operator::new(AnyBoard::Matrix(Matrix::new(0)));
-    let mut bytes = Vec::new(rt.alloc());
-    for _ in 0..u64::MAX {
-        bytes.clear();
-        if input.read_until(b'\n', &mut bytes)? == 0 {
-            break;
-        }
-        let line = text_of(content(bytes.as_slice()));
-        let reply = session.line(rt.alloc(), line)?;
-        if let Some(answer) = answer(rt, line, reply, &mut operator)? {
-            rt.println(answer)?;
-        }
-    }
-    if let Some(answer) = answer(rt, "", session.end(), &mut operator)? {
-        rt.println(answer)?;
+    let mut session = Session::new(rt.alloc());
+    let mut operator = Operator::new();
+    each_line(rt, |line| match hear(&mut session, line)? {
+        Ok(Some(request)) => print_answer(rt, respond(rt, line, request, &mut operator)?),
+        Ok(None) => Ok(()),
+        Err(failure) => Ok(rt.println(failure)?),
+    })?;
+    // a session's end has a failure to tell, or nothing
+    if let Err(failure) = session.end() {
+        rt.println(failure)?;
     }
     Ok(())
 }

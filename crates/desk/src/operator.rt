@@ -1,79 +1,71 @@
-// The machine that a script works on. A script begins with a machine's board; what stands here before that answers no call.
-ghost use Rattle.std.specs.Prelude.{◌≡◌};
-ghost use Rattle.desk.specs.Operator.{begins, operated, operated_load, operator, starts, traced};
+// The machine that a script works on, once it has begun one.
+ghost use Rattle.std.specs.Prelude.{◌≡◌, is_some};
+ghost use Rattle.desk.specs.Operator.{begins, operated, operated_load, operator, starts, told, traced};
 
-use crate::trace::{place_of, step_text};
+use crate::answer::{Answer, Failure};
+use crate::trace::{StepLine, place_of};
 use board::contract::Board;
 use machine::machine::Machine;
-use operate::answer::MachineAnswer;
+use operate::answer::Refused;
 use operate::call::{call_machine, load};
 use orders::call::MachineCall;
-use session::answer::{Answer, Failure};
-use std::alloc::{AllocError, Global};
 
 #[derive(Drop)]
 pub struct Operator<B> {
-    machine: Machine<B>,
-    begun: bool,
+    machine: Option<Machine<B>>,
 }
 
 impl<B: Board + Drop> Operator<B> {
-    // No machine is begun; the board is any.
-    pub fn new(board: B) -> Operator<B>
-        ensures { operator result ≡ starts B.Board board }
+    // No machine is begun.
+    pub fn new() -> Operator<B>
+        ensures { operator result ≡ starts }
     {
-        Operator {
-            machine: Machine::new(board),
-            begun: false,
-        }
+        Operator { machine: None }
     }
 
     // A new machine on this board, in place of the old one.
     pub fn begin(&mut self, board: B) -> Answer
         ensures { (result, operator self.new) ≡ begins B.Board board }
     {
-        self.machine = Machine::new(board);
-        self.begun = true;
-        Answer::Done
+        self.machine = Some(Machine::new(board));
+        Answer::OfScript(session::answer::Answer::Done)
     }
 
     // Whether a script has begun a machine.
     pub fn has_begun(&self) -> bool
-        ensures { result ≡ (operator self.now).begun }
+        ensures { result ≡ is_some (operator self.now) }
     {
-        self.begun
+        self.machine.is_some()
     }
 
     // A call of the machine.
-    pub fn call(&mut self, call: MachineCall) -> Answer
+    pub fn call(&mut self, call: MachineCall) -> Result<Answer, Failure>
         ensures { (result, operator self.new) ≡ operated B.Board call (operator self.old) }
     {
-        if !self.begun {
-            return Answer::Failed(Failure::NoMachine);
-        }
-        Answer::OfMachine(call_machine(&mut self.machine, call))
+        let machine = self.machine.as_mut().ok_or(Failure::NoMachine)?;
+        Ok(Answer::OfMachine(call_machine(machine, call)?))
     }
 
     // Loads these bytes as an image.
-    pub fn load_image(&mut self, image: &[u8]) -> Answer
+    pub fn load_image(&mut self, image: &[u8]) -> Result<Answer, Failure>
         ensures { (result, operator self.new) ≡ operated_load B.Board image.now (operator self.old) }
     {
-        if !self.begun {
-            return Answer::Failed(Failure::NoMachine);
-        }
-        Answer::OfMachine(load(&mut self.machine, image))
+        let machine = self.machine.as_mut().ok_or(Failure::NoMachine)?;
+        Ok(Answer::OfMachine(load(machine, image)?))
     }
-    // One step, and the line that tells it; or why none was made.
-    pub fn trace_step(&mut self, heap: Global) -> Result<Result<String, Answer>, AllocError>
-        ensures { operator self.new ≡ traced B.Board (operator self.old) }
+
+    // One step, as a line tells it.
+    pub fn trace_step(&mut self) -> Result<StepLine, Failure>
+        ensures after { operator self.new ≡ traced B.Board (operator self.old) }
+        ensures value { result ≡ told B.Board (operator self.old) }
     {
-        if !self.begun {
-            return Ok(Err(Answer::Failed(Failure::NoMachine)));
-        }
-        let place = place_of(&self.machine);
-        match self.machine.step() {
-            Ok(answer) => Ok(Ok(step_text(heap, &place, answer, &self.machine)?)),
-            Err(refusal) => Ok(Err(Answer::OfMachine(MachineAnswer::Refused(refusal)))),
-        }
+        let machine = self.machine.as_mut().ok_or(Failure::NoMachine)?;
+        let place = place_of(machine);
+        let answer = machine.step().map_err(Refused::Call)?;
+        Ok(StepLine {
+            place,
+            answer,
+            registers: machine.registers(),
+        })
     }
 }

@@ -10,9 +10,9 @@ use part::layout::{Vector, wrapped};
 fn push_pc(chip: &mut Chip)
     ensures { chip.new ≡ pushed_all (return_bytes chip.old) chip.old }
 {
-    let pc = chip.registers.pc;
-    chip.push((pc % 256) as u8);
-    chip.push((pc / 256) as u8);
+    let [high, low] = chip.registers.pc.to_be_bytes();
+    chip.push(low);
+    chip.push(high);
 }
 
 // Pushes the program counter and goes to this address.

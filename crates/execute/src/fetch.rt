@@ -1,11 +1,11 @@
 // The instruction at the program counter.
-ghost use Rattle.std.specs.Prelude.{◌≡◌, ◌<◌};
+ghost use Rattle.std.specs.Prelude.{◌≡◌};
 ghost use Rattle.execute.specs.Fetch.{executed_as, fetched};
 
 use crate::perform::perform;
 use board::reading::Reading;
 use chip::state::Chip;
-use opcodes::Row;
+use opcodes::Instruction;
 use part::layout::{EPROM_FIRST, EPROM_LAST, between, wrapped};
 
 // The code at the program counter and the two bytes after it.
@@ -18,7 +18,6 @@ pub struct Fetched {
 
 // Most code lies in EPROM, where the three bytes stand side by side.
 pub fn fetch(chip: &Chip, reading: &Reading) -> Fetched
-    requires { chip.now.registers.pc < 2048 }
     ensures { result ≡ fetched reading.now chip.now }
 {
     let pc = chip.registers.pc;
@@ -32,17 +31,20 @@ pub fn fetch(chip: &Chip, reading: &Reading) -> Fetched
     } else {
         Fetched {
             code: chip.read(reading, pc),
-            first: chip.read(reading, pc + 1),
-            second: chip.read(reading, pc + 2),
+            first: chip.read(reading, pc.wrapping_add(1)),
+            second: chip.read(reading, pc.wrapping_add(2)),
         }
     }
 }
 
-// The instruction of this row, with the two bytes after its code.
-pub fn execute(chip: &mut Chip, reading: &Reading, row: Row, first: u8, second: u8)
-    ensures { chip.new ≡ executed_as row first second reading.now chip.old }
+// Goes past the instruction and performs it.
+pub fn execute(chip: &mut Chip, reading: &Reading, instruction: Instruction)
+    ensures { chip.new ≡ executed_as instruction.row instruction.first instruction.second reading.now chip.old }
 {
-    let next = chip.registers.pc.wrapping_add(u16::from(row.length));
+    let next = chip
+        .registers
+        .pc
+        .wrapping_add(u16::from(instruction.row.length));
     chip.registers.pc = wrapped(next);
-    perform(chip, reading, row.operation, row.addressing, first, second);
+    perform(chip, reading, instruction);
 }

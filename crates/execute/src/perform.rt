@@ -1,6 +1,7 @@
-// What each operation does, with its operand's place.
-ghost use Rattle.std.specs.Prelude.{◌≡◌};
-ghost use Rattle.execute.specs.Perform.{branched_bit, branched_if, changed_bit, controlled, modified_at, performed, stored_from};
+// What each operation does, with its operand's place. The chip is altered and the reading is not, so they are two parameters: a struct of both would be a pair of borrows that each caller makes anew.
+ghost use Rattle.std.specs.Prelude.{◌≡◌, ℕ};
+ghost use Rattle.chip.specs.Memory.{read, written};
+ghost use Rattle.execute.specs.Perform.{branched_bit, branched_if, controlled, modified_at, performed, stored_from};
 
 use crate::entry::{call, enter, return_from_call, return_from_interrupt, stop, wait};
 use crate::place::{Place, place_of};
@@ -10,7 +11,7 @@ use alu::condition::holds;
 use alu::modify::modify;
 use board::reading::Reading;
 use chip::state::Chip;
-use opcodes::{Addressing, Bit, Control, Operation, ReadModifyWrite, Register};
+use opcodes::{Bit, Control, Instruction, Operation, ReadModifyWrite, Register};
 use part::layout::{Vector, branch_target, wrapped};
 
 // Goes on by a signed offset where the branch is taken.
@@ -26,22 +27,19 @@ fn branch_if(chip: &mut Chip, taken: bool, offset: u8)
 fn branch_bit(chip: &mut Chip, reading: &Reading, bit: Bit, wanted: bool, at: u8, offset: u8)
     ensures { chip.new ≡ branched_bit bit wanted at offset reading.now chip.old }
 {
-    let found = is_set(bit, chip.read(reading, at as u16));
+    let found = is_set(bit, chip.read(reading, u16::from(at)));
     chip.registers.flags.c = found;
     branch_if(chip, found == wanted, offset);
 }
 
-// BSET and BCLR.
-fn change_bit(chip: &mut Chip, reading: &Reading, bit: Bit, set: bool, at: u8)
-    ensures { chip.new ≡ changed_bit bit set at reading.now chip.old }
+// Reads a byte, changes it and writes it back.
+fn change<F: FnOnce(u8) -> u8>(chip: &mut Chip, reading: &Reading, at: u8, changed: F)
+    requires { F.IsAlwaysCallable changed }
+    ensures { (byte : ℕ) × F.post changed (read reading.now at chip.old) byte × (chip.new ≡ written at byte chip.old) }
 {
-    let byte = chip.read(reading, at as u16);
-    let changed = if set {
-        with(bit, byte)
-    } else {
-        without(bit, byte)
-    };
-    chip.write(at as u16, changed);
+    let at = u16::from(at);
+    let byte = chip.read(reading, at);
+    chip.write(at, changed(byte));
 }
 
 // A read-modify-write; TST does not write.
@@ -50,9 +48,8 @@ fn modify_at(chip: &mut Chip, reading: &Reading, operation: ReadModifyWrite, pla
 {
     let byte = place.value(chip, reading);
     let new = modify(operation, &mut chip.registers.flags, byte);
-    match operation {
-        ReadModifyWrite::Tst => {}
-        _ => place.store(chip, new),
+    if !matches!(operation, ReadModifyWrite::Tst) {
+        place.store(chip, new);
     }
 }
 
@@ -87,19 +84,13 @@ fn control(chip: &mut Chip, operation: Control)
     }
 }
 
-// An operation with the two bytes after its code; the program counter is past the instruction.
-pub fn perform(
-    chip: &mut Chip,
-    reading: &Reading,
-    operation: Operation,
-    addressing: Addressing,
-    first: u8,
-    second: u8,
-)
-    ensures { chip.new ≡ performed operation addressing first second reading.now chip.old }
+// What an instruction does; the program counter is past it.
+pub fn perform(chip: &mut Chip, reading: &Reading, instruction: Instruction)
+    ensures { chip.new ≡ performed instruction.row.operation instruction.row.addressing instruction.first instruction.second reading.now chip.old }
 {
-    let place = place_of(addressing, &chip.registers, first, second);
-    match operation {
+    let place = place_of(instruction, &chip.registers);
+    let Instruction { row, first, second } = instruction;
+    match row.operation {
         Operation::Read(operation) => {
             let byte = place.value(chip, reading);
             combine(operation, &mut chip.registers, byte);
@@ -112,8 +103,8 @@ pub fn perform(
         Operation::Modify(operation) => modify_at(chip, reading, operation, place),
         Operation::BranchIfSet(bit) => branch_bit(chip, reading, bit, true, first, second),
         Operation::BranchIfClear(bit) => branch_bit(chip, reading, bit, false, first, second),
-        Operation::SetBit(bit) => change_bit(chip, reading, bit, true, first),
-        Operation::ClearBit(bit) => change_bit(chip, reading, bit, false, first),
+        Operation::SetBit(bit) => change(chip, reading, first, |byte| with(bit, byte)),
+        Operation::ClearBit(bit) => change(chip, reading, first, |byte| without(bit, byte)),
         Operation::Jump => chip.registers.pc = wrapped(place.address()),
         Operation::Call => call(chip, wrapped(place.address())),
         Operation::Control(operation) => control(chip, operation),

@@ -4,7 +4,7 @@ ghost use Rattle.execute.specs.Place.{address_in, place_of, stored_at, value_at,
 
 use board::reading::Reading;
 use chip::state::{Chip, Registers};
-use opcodes::Addressing;
+use opcodes::{Addressing, Instruction};
 use part::layout::branch_target;
 
 // A register, a byte of the instruction itself, or an address.
@@ -17,20 +17,21 @@ pub enum Place {
 }
 
 // The place that the addressing forms from the two bytes after the code, with the program counter past the instruction. Inherent instructions have none; the byte stands for it.
-pub fn place_of(addressing: Addressing, registers: &Registers, first: u8, second: u8) -> Place
-    ensures { result ≡ place_of addressing registers.now first second }
+pub fn place_of(instruction: Instruction, registers: &Registers) -> Place
+    ensures { result ≡ place_of instruction.row.addressing registers.now instruction.first instruction.second }
 {
-    let x = registers.x as u16;
-    match addressing {
-        Addressing::Direct | Addressing::DirectRelative => Place::Memory(first as u16),
+    let Instruction { row, first, second } = instruction;
+    let byte = u16::from(first);
+    let word = u16::from_be_bytes([first, second]);
+    let x = u16::from(registers.x);
+    match row.addressing {
+        Addressing::Direct | Addressing::DirectRelative => Place::Memory(byte),
         Addressing::Immediate | Addressing::Inherent => Place::Immediate(first),
         Addressing::Relative => Place::Memory(branch_target(registers.pc, first)),
-        Addressing::Extended => Place::Memory(u16::from_be_bytes([first, second])),
+        Addressing::Extended => Place::Memory(word),
         Addressing::Indexed => Place::Memory(x),
-        Addressing::IndexedByte => Place::Memory(x.wrapping_add(first as u16)),
-        Addressing::IndexedWord => Place::Memory(x.wrapping_add(u16::from_be_bytes([
-            first, second,
-        ]))),
+        Addressing::IndexedByte => Place::Memory(x.wrapping_add(byte)),
+        Addressing::IndexedWord => Place::Memory(x.wrapping_add(word)),
         Addressing::Accumulator => Place::Accumulator,
         Addressing::Index => Place::Index,
     }

@@ -1,6 +1,6 @@
 // The instructions that take a byte to a register or work on registers alone.
 ghost use Rattle.std.specs.Prelude.{◌≡◌};
-ghost use Rattle.execute.specs.Registers.{added, combined, compared, kept, multiplied, register_of};
+ghost use Rattle.execute.specs.Registers.{added, combined, compared, kept, multiplied, register_of, subtracted};
 
 use alu::outcome::Outcome;
 use alu::sum::{Sum, add, multiply, subtract};
@@ -31,6 +31,14 @@ fn compare(registers: &mut Registers, difference: Outcome)
     registers.flags.set_nzc(difference.value, difference.carry);
 }
 
+// A is this difference, with N, Z and C.
+fn keep_difference(registers: &mut Registers, difference: Outcome)
+    ensures { registers.new ≡ subtracted difference registers.old }
+{
+    registers.a = difference.value;
+    compare(registers, difference);
+}
+
 // An instruction with this byte.
 pub fn combine(operation: RegisterMemory, registers: &mut Registers, byte: u8)
     ensures { registers.new ≡ combined operation byte registers.old }
@@ -38,16 +46,8 @@ pub fn combine(operation: RegisterMemory, registers: &mut Registers, byte: u8)
     let a = registers.a;
     let carry = registers.flags.c;
     match operation {
-        RegisterMemory::Sub => {
-            let difference = subtract(a, byte, false);
-            registers.a = difference.value;
-            compare(registers, difference);
-        }
-        RegisterMemory::Sbc => {
-            let difference = subtract(a, byte, carry);
-            registers.a = difference.value;
-            compare(registers, difference);
-        }
+        RegisterMemory::Sub => keep_difference(registers, subtract(a, byte, false)),
+        RegisterMemory::Sbc => keep_difference(registers, subtract(a, byte, carry)),
         RegisterMemory::Cmp => compare(registers, subtract(a, byte, false)),
         RegisterMemory::Cpx => compare(registers, subtract(registers.x, byte, false)),
         RegisterMemory::Add => keep_sum(registers, add(a, byte, false)),

@@ -1,5 +1,5 @@
 -- The reset that a step answers.
-use Rattle.std.proofs.Common.{◌≡◌, ℕ, Bool, true, false, cond, leb, Some, None, Option, refl, ap, ◌∙◌, arith}
+use Rattle.std.proofs.Common.{◌≡◌, Bool, true, false, cond, leb, Some, None, Option, refl, ap, ◌∙◌}
 use Rattle.board.specs.declared.contract.Board.{Ghosts}
 use Rattle.board.specs.declared.reading.Reading.{Reading}
 use Rattle.chip.specs.declared.state.Chip.{Chip}
@@ -29,7 +29,7 @@ rises External mode e = refl
 rises Timer mode e = refl
 rises Idle mode e = rw e
 rises IllegalAddress mode e = refl
-rises (Instruction row first second) mode e = refl
+rises (Instruction i) mode e = refl
 
 module _ {B : Type 0} (m : Ghosts B) (s : Chip) (b : B) (e : stopped s.mode ≡ false) where
   works : (a : Action) (r : Reading) → ResetsOverdue (worked m a r s b)
@@ -44,7 +44,7 @@ module _ {B : Type 0} (m : Ghosts B) (s : Chip) (b : B) (e : stopped s.mode ≡ 
       first_watchdog (leb 8 (cycled m up (cost_of a) acting told).0.timer.stage) (is_illegal a) ∙ ap (λ t. leb 8 t.stage) timer
 
   by_action : (o : Option Action) (r : Reading) (x : Stepped B) → worked_by m o r s b ≡ Some x → ResetsOverdue x
-  by_action None r x q = let z : ◌≡◌ {A = ℕ} 0 1 = cc in absurd (omega arith)
+  by_action None r x q = cc
   by_action (Some a) r x q = let same : worked m a r s b ≡ x = cc in rw same at (works a r)
 
   pub step_resets : (x : Stepped B) → stepped m s b ≡ Some x → ResetsOverdue x

@@ -1,3 +1,4 @@
 pub mod Line
 pub mod Sweep
 pub mod Vectors
+pub mod Text

@@ -1,8 +1,10 @@
 // One line of a listing: what stands at an address.
-ghost use Rattle.std.specs.Prelude.{◌≡◌};
+ghost use Rattle.std.specs.Prelude.{◌≡◌, ◌+◌, ◌%◌, ◌^◌, IfOk, string_bytes};
+ghost use Rattle.opcodes.specs.Map.{row_of};
 ghost use Rattle.listing.specs.Line.{byte_at, length_of, line_at, operand_of_line};
+ghost use Rattle.listing.specs.Text.{bytes_text, instruction_text, line_text, columns_text};
 
-use opcodes::{Operand, Row, row};
+use opcodes::{Instruction, Operand, Row, row};
 use part::layout::{branch_target, wrapped};
 use std::alloc::{AllocError, Global};
 
@@ -20,25 +22,37 @@ pub struct Line {
 pub fn byte_at(image: &[u8], address: u16) -> u8
     ensures { result ≡ byte_at image.now address }
 {
-    let at = wrapped(address) as usize;
-    if at < image.len() { image[at] } else { 0 }
+    let at = usize::from(wrapped(address));
+    image.get(at).copied().unwrap_or(0)
 }
 
 // What stands at this address.
 pub fn line_at(image: &[u8], address: u16) -> Line
     ensures { result ≡ line_at image.now address }
 {
-    let code = byte_at(image, address);
-    Line {
-        address,
-        code,
-        first: byte_at(image, address.wrapping_add(1)),
-        second: byte_at(image, address.wrapping_add(2)),
-        row: row(code),
-    }
+    Line::read(address, |at| byte_at(image, at))
 }
 
 impl Line {
+    // What stands at this address, where the function tells the byte at each.
+    pub fn read<F: Fn(u16) -> u8>(address: u16, byte: F) -> Line
+        requires { F.IsAlwaysCallable byte }
+        ensures address { result.address ≡ address }
+        ensures code { F.post byte address result.code }
+        ensures first { F.post byte ((address + 1) % 2 ^ 16) result.first }
+        ensures second { F.post byte ((address + 2) % 2 ^ 16) result.second }
+        ensures row { result.row ≡ row_of result.code }
+    {
+        let code = byte(address);
+        Line {
+            address,
+            code,
+            first: byte(address.wrapping_add(1)),
+            second: byte(address.wrapping_add(2)),
+            row: row(code),
+        }
+    }
+
     // How many bytes belong to the line: a code without an instruction stands alone.
     pub fn length(&self) -> u8
         ensures { result ≡ length_of self.now }
@@ -62,36 +76,56 @@ impl Line {
         } else {
             self.first
         };
-        row.operand(self.first, self.second, branch_target(next, offset))
+        let instruction = Instruction {
+            row,
+            first: self.first,
+            second: self.second,
+        };
+        instruction.operand(branch_target(next, offset))
     }
 
-    // The bytes of the line.
-    pub fn bytes_text(&self, heap: Global) -> Result<String, AllocError> {
+    // The bytes of the line, for a column.
+    #[tactic(auto, using(opcodes::proofs::Hex::byte_output))]
+    pub fn bytes_text(&self, heap: Global) -> Result<String, AllocError>
+        ensures { IfOk result (λ s. string_bytes s ≡ bytes_text self.now) }
+    {
+        let Line {
+            code,
+            first,
+            second,
+            ..
+        } = *self;
         match self.length() {
-            1 => format!(in heap; "{:02X}", self.code),
-            2 => format!(in heap; "{:02X} {:02X}", self.code, self.first),
-            _ => format!(in heap; "{:02X} {:02X} {:02X}", self.code, self.first, self.second),
+            1 => format!(in heap; "{code:02X}"),
+            2 => format!(in heap; "{code:02X} {first:02X}"),
+            _ => format!(in heap; "{code:02X} {first:02X} {second:02X}"),
         }
     }
 
-    // Mnemonic and operand; a code without an instruction is a byte.
-    pub fn instruction_text(&self, heap: Global) -> Result<String, AllocError> {
+    // Mnemonic and operand, for a column; a code without an instruction is a byte.
+    #[tactic(auto, using(opcodes::proofs::Hex::byte_output))]
+    pub fn instruction_text(&self, heap: Global) -> Result<String, AllocError>
+        ensures { IfOk result (λ s. string_bytes s ≡ instruction_text self.now) }
+    {
+        let code = self.code;
         match self.row {
             Some(row) => {
                 let operand = self.operand();
                 format!(in heap; "{row} {operand}")
             }
-            None => format!(in heap; "FCB ${:02X}", self.code),
+            None => format!(in heap; "FCB ${code:02X}"),
         }
     }
 
     // Address, bytes, mnemonic, operand and cycles; a byte that is no instruction costs nothing.
-    pub fn text(&self, heap: Global) -> Result<String, AllocError> {
+    pub fn text(&self, heap: Global) -> Result<String, AllocError>
+        ensures { IfOk result (λ s. string_bytes s ≡ line_text self.now) }
+    {
         let bytes = self.bytes_text(heap)?;
         let instruction = self.instruction_text(heap)?;
         let cycles = match self.row {
-            Some(row) => format!(in heap; "{}", row.cycles)?,
-            None => format!(in heap; "-")?,
+            Some(row) => row.cycles.to_string(heap)?,
+            None => String::from_str(heap, "-")?,
         };
         columns(
             heap,
@@ -103,13 +137,16 @@ impl Line {
     }
 }
 
-// The columns of a line.
+// The columns of a line. Its parts are padded as texts, since a Display of several parts cannot be padded.
+#[tactic(auto, using(opcodes::proofs::Hex::word_output))]
 pub(crate) fn columns(
     heap: Global,
     address: u16,
     bytes: &str,
     instruction: &str,
     last: &str,
-) -> Result<String, AllocError> {
+) -> Result<String, AllocError>
+    ensures { IfOk result (λ s. string_bytes s ≡ columns_text address bytes.now instruction.now last.now) }
+{
     format!(in heap; "{address:04X}  {bytes:<8}  {instruction:<20}  {last}")
 }

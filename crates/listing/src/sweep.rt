@@ -1,10 +1,13 @@
 // Where a listing goes on: it leaves out runs of zeros.
-ghost use Rattle.std.specs.Prelude.{◌≡◌, ◌-◌, ◌<◌, IfSome, IfOk};
+ghost use Rattle.std.specs.Prelude.{◌≡◌, ◌-◌, ◌<◌, ◌≤◌, IfSome, IfOk, MatchOption};
 ghost use Rattle.listing.specs.Sweep.{sweep_end, blank, past_zeros, next_line, lines_of};
 
 use crate::line::{Line, byte_at, line_at};
-use part::layout::{ADDRESS_SPACE, EPROM_FIRST, EPROM_LAST};
+use part::layout::{EPROM_FIRST, EPROM_LAST};
 use std::alloc::{AllocError, Global};
+
+// The address past the EPROM.
+const SWEEP_END: u16 = EPROM_LAST + 1;
 
 // Whether three zeros stand from this address on: no instruction is listed there.
 fn is_blank(image: &[u8], address: u16) -> bool
@@ -15,15 +18,11 @@ fn is_blank(image: &[u8], address: u16) -> bool
         && byte_at(image, address.wrapping_add(2)) == 0
 }
 
-// The first address from this one on with a byte that is not 0, or the one past the EPROM.
-fn past_zeros(image: &[u8], from: u16) -> u16
-    ensures { result ≡ past_zeros image.now (sweep_end - from) from }
+// The first address from this one on with a byte that is not 0, up to the end of the EPROM.
+fn past_zeros(image: &[u8], from: u16) -> Option<u16>
+    ensures { MatchOption result (sweep_end ≤ past_zeros image.now (sweep_end - from) from) (λ at. (at ≡ past_zeros image.now (sweep_end - from) from) × (at < sweep_end)) }
 {
-    let mut at = from;
-    while at <= EPROM_LAST && byte_at(image, at) == 0 {
-        at += 1;
-    }
-    at
+    (from..SWEEP_END).find(|&at| byte_at(image, at) != 0)
 }
 
 // The next line of the listing from this address on, up to the end of the EPROM.
@@ -32,15 +31,11 @@ pub fn next_line(image: &[u8], from: u16) -> Option<Line>
     ensures within { IfSome result (λ l. l.address < sweep_end) }
 {
     let at = if is_blank(image, from) {
-        past_zeros(image, from)
+        past_zeros(image, from)?
     } else {
         from
     };
-    if at <= EPROM_LAST {
-        Some(line_at(image, at))
-    } else {
-        None
-    }
+    (at < SWEEP_END).then(|| line_at(image, at))
 }
 
 // All lines of the EPROM.
@@ -49,10 +44,7 @@ pub fn all_lines(heap: Global, image: &[u8]) -> Result<Vec<Line>, AllocError>
 {
     let mut lines = Vec::new(heap);
     let mut at = EPROM_FIRST;
-    for _i in 0..ADDRESS_SPACE {
-        let Some(line) = next_line(image, at) else {
-            return Ok(lines);
-        };
+    while let Some(line) = next_line(image, at) {
         lines.push(line)?;
         at = line.address + u16::from(line.length());
     }

@@ -1,6 +1,7 @@
 // The vectors of an image, as a listing shows them.
-ghost use Rattle.std.specs.Prelude.{◌≡◌};
-ghost use Rattle.listing.specs.Vectors.{vector_word, vector_name};
+ghost use Rattle.std.specs.Prelude.{◌≡◌, IfOk, string_bytes};
+ghost use Rattle.listing.specs.Vectors.{vector_word};
+ghost use Rattle.listing.specs.Text.{vector_text};
 
 use crate::line::{byte_at, columns};
 use part::layout::Vector;
@@ -16,27 +17,21 @@ pub fn vector_word(image: &[u8], vector: Vector) -> u16
     u16::from_be_bytes([high, low])
 }
 
-fn vector_name(vector: Vector) -> &'static str
-    ensures { result.now ≡ vector_name vector }
-{
-    match vector {
-        Vector::Timer => "timer",
-        Vector::External => "external",
-        Vector::Swi => "SWI",
-        Vector::Reset => "reset",
-    }
-}
-
 // Address, bytes, the word that they write, and the vector's name.
-pub fn vector_text(heap: Global, image: &[u8], vector: Vector) -> Result<String, AllocError> {
+#[tactic(auto, using(opcodes::proofs::Hex::byte_output, opcodes::proofs::Hex::word_output))]
+pub fn vector_text(heap: Global, image: &[u8], vector: Vector) -> Result<String, AllocError>
+    ensures { IfOk result (λ s. string_bytes s ≡ vector_text image.now vector) }
+{
     let word = vector_word(image, vector);
-    let bytes = format!(in heap; "{:02X} {:02X}", word / 256, word % 256)?;
+    let [high, low] = word.to_be_bytes();
+    let bytes = format!(in heap; "{high:02X} {low:02X}")?;
     let data = format!(in heap; "FDB ${word:04X}")?;
+    let name = vector.to_string(heap)?;
     columns(
         heap,
         vector.address(),
         bytes.as_str(),
         data.as_str(),
-        vector_name(vector),
+        name.as_str(),
     )
 }

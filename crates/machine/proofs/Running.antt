@@ -1,6 +1,6 @@
 -- The cases of a run.
-use Rattle.std.proofs.Common.{◌≡◌, ℕ, zero, suc, ◌+◌, ◌-◌, ◌<◌, ◌≤◌, Bool, true, false, cond, ltb, ◌∷◌, length, Ok, Err, Result, sym, refl, ap, ◌∙◌, zero-add, arith}
-use Rattle.std.proofs.lemmas.Bool.{lt-ltb, le-ltb, true≢false, false≢true, cond-true, cond-false}
+use Rattle.std.proofs.Common.{◌≡◌, ℕ, zero, suc, ◌+◌, ◌-◌, ◌<◌, ◌≤◌, true, false, cond, ltb, ◌∷◌, length, Ok, Err, Result, sym, refl, ap, ◌∙◌, zero-add, arith}
+use Rattle.std.proofs.lemmas.Bool.{lt-ltb, le-ltb, cond-true, cond-false}
 use Rattle.board.specs.declared.contract.Board.{Ghosts}
 use Rattle.refusal.specs.declared.Refusal.{Refusal}
 use Rattle.refusal.specs.declared.Refusal.TheVariants.{NoImage, Target}
@@ -30,10 +30,6 @@ onward_same : {B : Type 0} (a : Result (Made B) Refusal) (f g : State B → Run 
 onward_same (Ok x) f g s total r h = ap (λ y. record { steps = x ∷ y.steps; end = y.end; after = y.after }) (h x.after r.0)
 onward_same (Err e) f g s total r h = refl
 
-abbrev is_ok : {A E : Type 0} → Result A E → Bool
-is_ok (Ok x) = true
-is_ok (Err e) = false
-
 -- what a step's answer says of the run that begins with it
 module _ {B : Type 0} (f : State B → Run B) (s s' : State B) where
   by_made : (x : Result (Made B) Refusal) (a : StepAnswer) (n : ℕ) → (Ok a, s') ≡ step_by x s → after n (onward x f s) ≡ after (n + 1) (f s')
@@ -42,15 +38,15 @@ module _ {B : Type 0} (f : State B → Run B) (s s' : State B) where
       let count : n + length (y ∷ (f s').steps) ≡ n + 1 + length (f s').steps = omega arith in
       ap (λ z. after n (record { steps = y ∷ (f z).steps; end = (f z).end; after = (f z).after })) t
       ∙ ap (λ k. (record { steps = k; end = (f s').end }, (f s').after)) count
-  by_made (Err q) a n e = absurd (true≢false (ap (λ p. is_ok p.0) e))
+  by_made (Err q) a n e = let z = ap (λ p. p.0) e in cc
 
   by_stuck : (x : Result (Made B) Refusal) (q : Refusal) → (Err q, s') ≡ step_by x s → (onward x f s ≡ ends Stuck s) × (s' ≡ s)
-  by_stuck (Ok y) q e = absurd (false≢true (ap (λ p. is_ok p.0) e))
+  by_stuck (Ok y) q e = let z = ap (λ p. p.0) e in cc
   by_stuck (Err r) q e = (refl, ap (λ p. p.1) e)
 
 by_raised : {B : Type 0} (s s' : State B) (x : Result (Made B) Refusal) (a : StepAnswer) → Raises s.total x → (Ok a, s') ≡ step_by x s → s.total < s'.total
 by_raised s s' (Ok y) a r e = let t = ap (λ p. p.1.total) e in omega arith
-by_raised s s' (Err q) a r e = absurd (true≢false (ap (λ p. is_ok p.0) e))
+by_raised s s' (Err q) a r e = let z = ap (λ p. p.0) e in cc
 
 module _ {B : Type 0} (m : Ghosts B) (u : ℕ) where
   -- nothing is left to do

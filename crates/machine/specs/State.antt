@@ -11,4 +11,4 @@ pub record State (B : Type 0) : Type 0 where
   pub board : B
 
 abbrev pub state : {B : Type 0} → Machine B → State B
-state m = record { chip = m.chip; total = m.total; loaded = m.loaded; board = m.board }
+state m = record { chip = m.fitted.chip; total = m.total; loaded = m.loaded; board = m.fitted.board }

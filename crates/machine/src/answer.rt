@@ -23,14 +23,11 @@ pub struct Pins {
     pub irq: u8,
 }
 
-impl RunEnd {
-    // Its published number.
-    pub fn number(self) -> u8
-        ensures { result ≡ end_number self }
-    {
-        match self {
-            RunEnd::Reached => 0,
-            RunEnd::Stuck => 1,
-        }
+// Its published number.
+impl From<RunEnd> for u8 {
+    ghost from_gives = { λ end number. number ≡ end_number end };
+
+    fn from(end: RunEnd) -> u8 {
+        end as u8
     }
 }

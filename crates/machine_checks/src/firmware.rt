@@ -9,10 +9,8 @@ use std::test::Fail;
 // An image with this code at $0300, where it starts, and this option byte.
 pub fn image_of(code: &[u8], options: u8) -> [u8; 2048] {
     let mut image = [0u8; 2048];
-    for (i, byte) in code.iter().enumerate() {
-        if i < 0x4D0 {
-            image[0x300 + i] = *byte;
-        }
+    for (place, byte) in image[0x300..0x7D0].iter_mut().zip(code) {
+        *place = *byte;
     }
     image[0x7F1] = options;
     image[0x7FE] = 0x03;

@@ -2,7 +2,6 @@
 #![tactic(auto)]
 
 mod addressing;
-mod hex;
 mod mnemonic;
 mod operand;
 mod operation;

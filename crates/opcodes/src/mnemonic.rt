@@ -5,12 +5,13 @@ ghost use Rattle.opcodes.specs.Mnemonic.{branch_name, modify_name, read_name, co
 use crate::addressing::{Addressing, Row};
 use crate::operation::{Condition, Control, Operation, ReadModifyWrite, Register, RegisterMemory};
 use std::fmt;
+use std::fmt::Display;
 
-impl Condition {
-    fn name(self) -> &'static str
-        ensures { result.now ≡ branch_name self }
-    {
-        match self {
+impl fmt::Display for Condition {
+    ghost output = { λ it. Some (branch_name it) };
+
+    fn fmt<W: fmt::Write>(&self, f: &mut fmt::Formatter<W>) -> fmt::Result {
+        f.write_str(match self {
             Condition::Always => "BRA",
             Condition::Never => "BRN",
             Condition::Higher => "BHI",
@@ -27,15 +28,15 @@ impl Condition {
             Condition::MaskSet => "BMS",
             Condition::IrqLow => "BIL",
             Condition::IrqHigh => "BIH",
-        }
+        })
     }
 }
 
-impl ReadModifyWrite {
-    fn name(self) -> &'static str
-        ensures { result.now ≡ modify_name self }
-    {
-        match self {
+impl fmt::Display for ReadModifyWrite {
+    ghost output = { λ it. Some (modify_name it) };
+
+    fn fmt<W: fmt::Write>(&self, f: &mut fmt::Formatter<W>) -> fmt::Result {
+        f.write_str(match self {
             ReadModifyWrite::Neg => "NEG",
             ReadModifyWrite::Com => "COM",
             ReadModifyWrite::Lsr => "LSR",
@@ -47,15 +48,15 @@ impl ReadModifyWrite {
             ReadModifyWrite::Inc => "INC",
             ReadModifyWrite::Tst => "TST",
             ReadModifyWrite::Clr => "CLR",
-        }
+        })
     }
 }
 
-impl RegisterMemory {
-    fn name(self) -> &'static str
-        ensures { result.now ≡ read_name self }
-    {
-        match self {
+impl fmt::Display for RegisterMemory {
+    ghost output = { λ it. Some (read_name it) };
+
+    fn fmt<W: fmt::Write>(&self, f: &mut fmt::Formatter<W>) -> fmt::Result {
+        f.write_str(match self {
             RegisterMemory::Sub => "SUB",
             RegisterMemory::Cmp => "CMP",
             RegisterMemory::Sbc => "SBC",
@@ -68,15 +69,15 @@ impl RegisterMemory {
             RegisterMemory::Ora => "ORA",
             RegisterMemory::Add => "ADD",
             RegisterMemory::Ldx => "LDX",
-        }
+        })
     }
 }
 
-impl Control {
-    fn name(self) -> &'static str
-        ensures { result.now ≡ control_name self }
-    {
-        match self {
+impl fmt::Display for Control {
+    ghost output = { λ it. Some (control_name it) };
+
+    fn fmt<W: fmt::Write>(&self, f: &mut fmt::Formatter<W>) -> fmt::Result {
+        f.write_str(match self {
             Control::Mul => "MUL",
             Control::Tax => "TAX",
             Control::Txa => "TXA",
@@ -91,12 +92,12 @@ impl Control {
             Control::Swi => "SWI",
             Control::Stop => "STOP",
             Control::Wait => "WAIT",
-        }
+        })
     }
 }
 
 impl Addressing {
-    // The letter of the register that a read-modify-write works on.
+    // The letter of the register that a read-modify-write works on; a Display would be the addressing's own text.
     fn suffix(self) -> &'static str
         ensures { result.now ≡ suffix_of self }
     {
@@ -108,27 +109,30 @@ impl Addressing {
     }
 }
 
-impl Row {
-    // The mnemonic without a register's letter; a relative call is BSR.
-    fn name(&self) -> &'static str
-        ensures { result.now ≡ name_of self.now }
-    {
-        match self.operation {
-            Operation::BranchIfSet(_) => "BRSET",
-            Operation::BranchIfClear(_) => "BRCLR",
-            Operation::SetBit(_) => "BSET",
-            Operation::ClearBit(_) => "BCLR",
-            Operation::Branch(condition) => condition.name(),
-            Operation::Modify(modify) => modify.name(),
-            Operation::Read(read) => read.name(),
-            Operation::Store(Register::Accumulator) => "STA",
-            Operation::Store(Register::Index) => "STX",
-            Operation::Jump => "JMP",
-            Operation::Call => match self.addressing {
+// The mnemonic of a row without a register's letter; a relative call is BSR.
+#[derive(Clone, Copy)]
+struct Name(Row);
+
+impl fmt::Display for Name {
+    ghost output = { λ name. Some (name_of name.0) };
+
+    fn fmt<W: fmt::Write>(&self, f: &mut fmt::Formatter<W>) -> fmt::Result {
+        match self.0.operation {
+            Operation::BranchIfSet(_) => f.write_str("BRSET"),
+            Operation::BranchIfClear(_) => f.write_str("BRCLR"),
+            Operation::SetBit(_) => f.write_str("BSET"),
+            Operation::ClearBit(_) => f.write_str("BCLR"),
+            Operation::Branch(condition) => condition.fmt(f),
+            Operation::Modify(modify) => modify.fmt(f),
+            Operation::Read(read) => read.fmt(f),
+            Operation::Store(Register::Accumulator) => f.write_str("STA"),
+            Operation::Store(Register::Index) => f.write_str("STX"),
+            Operation::Jump => f.write_str("JMP"),
+            Operation::Call => f.write_str(match self.0.addressing {
                 Addressing::Relative => "BSR",
                 _ => "JSR",
-            },
-            Operation::Control(control) => control.name(),
+            }),
+            Operation::Control(control) => control.fmt(f),
         }
     }
 }
@@ -137,8 +141,7 @@ impl fmt::Display for Row {
     ghost output = { λ row. Some (mnemonic_of row) };
 
     fn fmt<W: fmt::Write>(&self, f: &mut fmt::Formatter<W>) -> fmt::Result {
-        let name = self.name();
         let suffix = self.addressing.suffix();
-        write!(f, "{name}{suffix}")
+        write!(f, "{}{suffix}", Name(*self))
     }
 }

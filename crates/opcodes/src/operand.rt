@@ -1,13 +1,12 @@
 // The operand of an instruction, as a listing shows it.
-ghost use Rattle.std.specs.Prelude.{◌≡◌, ◌<◌, Some};
-ghost use Rattle.opcodes.specs.Operand.{bit_of, word_of, operand_of, bit_number, bit_text, operand_text};
+ghost use Rattle.std.specs.Prelude.{◌≡◌, Some};
+ghost use Rattle.opcodes.specs.Operand.{bit_of, operand_of, bit_number, operand_text};
 
-use crate::addressing::{Addressing, Row};
-use crate::hex::{HexByte, HexWord, digit};
+use crate::addressing::{Addressing, Instruction};
 use crate::operation::{Bit, Operation};
 use std::fmt;
-use std::fmt::Display;
 
+// Nothing has an empty text, so that each instruction has an operand and a listing prints all alike.
 // Target is where a branch goes, BitDirect a bit of a byte in memory, and BitBranch such a bit and a target.
 #[derive(Clone, Copy)]
 pub enum Operand {
@@ -38,79 +37,56 @@ impl Operation {
     }
 }
 
-// Two bytes as a word, the high byte first.
-fn word(high: u8, low: u8) -> u16
-    ensures { result ≡ word_of high low }
-{
-    high as u16 * 256 + low as u16
-}
-
-impl Row {
-    // The operand, from the two bytes after the code and the address that a branch goes to.
-    pub fn operand(&self, first: u8, second: u8, target: u16) -> Operand
-        ensures { result ≡ operand_of self.now first second target }
+impl Instruction {
+    // The operand, where a branch goes to this target.
+    pub fn operand(&self, target: u16) -> Operand
+        ensures { result ≡ operand_of self.now.row self.now.first self.now.second target }
     {
-        match self.addressing {
+        let word = u16::from_be_bytes([self.first, self.second]);
+        match self.row.addressing {
             Addressing::Inherent | Addressing::Accumulator | Addressing::Index => Operand::Nothing,
-            Addressing::Immediate => Operand::Immediate(first),
-            Addressing::Direct => match self.operation.bit() {
-                Some(bit) => Operand::BitDirect(bit, first),
-                None => Operand::Direct(first),
+            Addressing::Immediate => Operand::Immediate(self.first),
+            Addressing::Direct => match self.row.operation.bit() {
+                Some(bit) => Operand::BitDirect(bit, self.first),
+                None => Operand::Direct(self.first),
             },
-            Addressing::Extended => Operand::Extended(word(first, second)),
+            Addressing::Extended => Operand::Extended(word),
             Addressing::Indexed => Operand::Indexed,
-            Addressing::IndexedByte => Operand::IndexedByte(first),
-            Addressing::IndexedWord => Operand::IndexedWord(word(first, second)),
+            Addressing::IndexedByte => Operand::IndexedByte(self.first),
+            Addressing::IndexedWord => Operand::IndexedWord(word),
             Addressing::Relative => Operand::Target(target),
-            Addressing::DirectRelative => match self.operation.bit() {
-                Some(bit) => Operand::BitBranch(bit, first, target),
+            Addressing::DirectRelative => match self.row.operation.bit() {
+                Some(bit) => Operand::BitBranch(bit, self.first, target),
                 None => Operand::Target(target),
             },
         }
     }
 }
 
-impl Bit {
-    // From 0 to 7.
-    fn number(self) -> u8
-        ensures is { result ≡ bit_number self }
-        ensures below { result < 8 }
-    {
-        self as u8
-    }
-}
+impl From<Bit> for u8 {
+    ghost from_gives = { λ bit number. number ≡ bit_number bit };
 
-// A bit of a byte in memory: 3,$1E.
-#[derive(Clone, Copy)]
-struct BitOf(Bit, u8);
-
-impl fmt::Display for BitOf {
-    ghost output = { λ x. Some (bit_text x.0 x.1) };
-
-    fn fmt<W: fmt::Write>(&self, f: &mut fmt::Formatter<W>) -> fmt::Result {
-        let bit = digit(self.0.number());
-        let byte = HexByte(self.1);
-        write!(f, "{bit},{byte}")
+    fn from(bit: Bit) -> u8 {
+        bit as u8
     }
 }
 
 impl fmt::Display for Operand {
     ghost output = { λ operand. Some (operand_text operand) };
 
+    #[tactic(auto, using(crate::proofs::Hex::byte_output, crate::proofs::Hex::word_output, crate::proofs::Hex::bit_digit))]
     fn fmt<W: fmt::Write>(&self, f: &mut fmt::Formatter<W>) -> fmt::Result {
         match *self {
-            Operand::Nothing => f.write_str(""),
-            Operand::Immediate(byte) => write!(f, "#{}", HexByte(byte)),
-            Operand::Direct(byte) => HexByte(byte).fmt(f),
-            Operand::Extended(word) | Operand::Target(word) => HexWord(word).fmt(f),
+            Operand::Nothing => Ok(()),
+            Operand::Immediate(byte) => write!(f, "#${byte:02X}"),
+            Operand::Direct(byte) => write!(f, "${byte:02X}"),
+            Operand::Extended(word) | Operand::Target(word) => write!(f, "${word:04X}"),
             Operand::Indexed => f.write_str(",X"),
-            Operand::IndexedByte(byte) => write!(f, "{},X", HexByte(byte)),
-            Operand::IndexedWord(word) => write!(f, "{},X", HexWord(word)),
-            Operand::BitDirect(bit, byte) => BitOf(bit, byte).fmt(f),
+            Operand::IndexedByte(byte) => write!(f, "${byte:02X},X"),
+            Operand::IndexedWord(word) => write!(f, "${word:04X},X"),
+            Operand::BitDirect(bit, byte) => write!(f, "{},${byte:02X}", u8::from(bit)),
             Operand::BitBranch(bit, byte, target) => {
-                let tested = BitOf(bit, byte);
-                let target = HexWord(target);
-                write!(f, "{tested},{target}")
+                write!(f, "{},${byte:02X},${target:04X}", u8::from(bit))
             }
         }
     }

@@ -1,5 +1,5 @@
 // The operation, addressing, length and cycles of each of the 256 codes.
-ghost use Rattle.std.specs.Prelude.{◌≡◌};
+ghost use Rattle.std.specs.Prelude.{◌≡◌, Some};
 ghost use Rattle.opcodes.specs.Cell.{cell_of};
 ghost use Rattle.opcodes.specs.Map.{row_of};
 ghost use Rattle.opcodes.specs.Rules.{Lawful, instructions, OpcodeRules};
@@ -14,9 +14,22 @@ use crate::operation::ReadModifyWrite::*;
 use crate::operation::RegisterMemory::*;
 use crate::operation::{Operation, Register};
 
-// Operation, addressing, length, cycles.
+// Operation, addressing, length, cycles: a row on one line of the table, where a literal with field names would take six.
 #[derive(Clone, Copy)]
 struct Cell(Operation, Addressing, u8, u8);
+
+impl From<Cell> for Row {
+    ghost from_gives = { λ cell row. Some cell ≡ cell_of (Some row) };
+
+    fn from(Cell(operation, addressing, length, cycles): Cell) -> Row {
+        Row {
+            operation,
+            addressing,
+            length,
+            cycles,
+        }
+    }
+}
 
 const CELLS: &[Option<Cell>; 256] = &[
     // $00-$0F
@@ -293,34 +306,12 @@ const CELLS: &[Option<Cell>; 256] = &[
     Some(Cell(Store(Register::Index), Indexed, 1, 4)),
 ];
 
-// A cell with the names of its parts.
-fn named(cell: Option<Cell>) -> Option<Row>
-    ensures { cell_of result ≡ cell }
-{
-    match cell {
-        Some(Cell(operation, addressing, length, cycles)) => Some(Row {
-            operation,
-            addressing,
-            length,
-            cycles,
-        }),
-        None => None,
-    }
-}
-
-// The table's entry for a code.
-fn entry(code: u8) -> Option<Cell>
-    ensures { result ≡ cell_of (row_of code) }
-{
-    CELLS[code as usize]
-}
-
 // What the table says of a code, and nothing where the code has no instruction.
 pub fn row(code: u8) -> Option<Row>
     ensures is { result ≡ row_of code }
     ensures lawful { Lawful code result }
 {
-    named(entry(code))
+    CELLS[usize::from(code)].map(Row::from)
 }
 
 // How many codes have an instruction; the rules of the whole map stand on this contract.

@@ -6,6 +6,7 @@ use Rattle.board.specs.declared.contract.Board.{Ghosts}
 use Rattle.board.specs.declared.reading.Reading.{Reading}
 use Rattle.chip.specs.declared.state.Interrupt.{Interrupt}
 use Rattle.chip.specs.declared.state.Ports.{Ports}
+use Rattle.chip.specs.declared.state.Registers.{Registers}
 use Rattle.chip.specs.State.{mode_number}
 use Rattle.machine.specs.State.{State}
 use Rattle.part.specs.declared.rom.Rom.{Rom}
@@ -24,20 +25,14 @@ interrupt_byte i = flag i.enable 128 + flag i.active 2 + flag i.latch 1
 
 abbrev pub snapshot_of : {B : Type 0} → Ghosts B → State B → Snapshot
 snapshot_of m s = record {
-  a = s.chip.registers.a;
-  x = s.chip.registers.x;
-  sp = s.chip.registers.sp;
-  pc = s.chip.registers.pc;
-  condition = condition_byte s.chip.registers.flags;
+  registers = s.chip.registers;
   ram = s.chip.ram;
   image = image_hash s.chip.rom;
   ports = s.chip.ports;
-  mode = mode_number s.chip.mode;
-  control = control s.chip.timer;
-  interrupt = interrupt_byte s.chip.interrupt;
-  t = s.chip.timer.t;
+  mode = s.chip.mode;
+  timer = s.chip.timer;
+  interrupt = s.chip.interrupt;
   total = s.total;
-  stage = s.chip.timer.stage;
   shown = m.shows s.board 0;
 }
 
@@ -52,20 +47,20 @@ reading_text r =
     decimal r.level_a ++ (codes "," ++ (decimal r.open_a ++ (codes "," ++ (decimal r.level_b
     ++ (codes "," ++ (decimal r.open_b ++ (codes "," ++ decimal r.irq)))))))
 
-abbrev pub cpu_text : Snapshot → List ℕ
-cpu_text x =
-    codes "A=" ++ (byte_text x.a ++ (codes " X=" ++ (byte_text x.x ++ (codes " SP=" ++ (byte_text x.sp
-    ++ (codes " PC=" ++ (word_text x.pc ++ (codes " CC=" ++ byte_text x.condition))))))))
+abbrev pub cpu_text : Registers → List ℕ
+cpu_text r =
+    codes "A=" ++ (byte_text r.a ++ (codes " X=" ++ (byte_text r.x ++ (codes " SP=" ++ (byte_text r.sp
+    ++ (codes " PC=" ++ (word_text r.pc ++ (codes " CC=" ++ byte_text (condition_byte r.flags)))))))))
 
 abbrev pub memory_text : Snapshot → List ℕ
 memory_text x = codes "RAM=" ++ (bytes_text x.ram ++ (codes " IMG=" ++ quad_text x.image))
 
 abbrev pub clock_text : Snapshot → List ℕ
 clock_text x =
-    codes "MODE=" ++ (decimal x.mode ++ (codes " TSCR=" ++ (byte_text x.control ++ (codes " IRQ=" ++ (byte_text x.interrupt
-    ++ (codes " T=" ++ (decimal x.t ++ (codes " TOTAL=" ++ (decimal x.total ++ (codes " STAGE=" ++ decimal x.stage))))))))))
+    codes "MODE=" ++ (decimal (mode_number x.mode) ++ (codes " TSCR=" ++ (byte_text (control x.timer) ++ (codes " IRQ=" ++ (byte_text (interrupt_byte x.interrupt)
+    ++ (codes " T=" ++ (decimal x.timer.t ++ (codes " TOTAL=" ++ (decimal x.total ++ (codes " STAGE=" ++ decimal x.timer.stage))))))))))
 
 abbrev pub snapshot_text : Snapshot → List ℕ
 snapshot_text x =
-    codes "state " ++ (cpu_text x ++ (codes " " ++ (memory_text x ++ (codes " " ++ (ports_text x.ports ++ (codes " " ++ (clock_text x
+    codes "state " ++ (cpu_text x.registers ++ (codes " " ++ (memory_text x ++ (codes " " ++ (ports_text x.ports ++ (codes " " ++ (clock_text x
     ++ (codes " SHOW=" ++ reading_text x.shown))))))))

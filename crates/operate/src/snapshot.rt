@@ -6,30 +6,25 @@ ghost use Rattle.operate.specs.Snapshot.{clock_text, cpu_text, image_hash, inter
 use bits::flag;
 use board::contract::Board;
 use board::reading::Reading;
-use chip::state::{Interrupt, Ports};
+use chip::state::{Interrupt, Mode, Port, Ports, Registers};
 use machine::machine::Machine;
 use part::rom::Rom;
 use std::fmt;
 use text::fnv::{fnv_from, fnv_of, fnv_with};
-use text::hex_text::{HexByte, HexBytes, HexQuad, HexWord};
+use text::hex_text::HexBytes;
+use timer::state::Timer;
 
-// Registers, with the flags as the condition byte; RAM; the image as its hash; ports; mode; $0008; the interrupt as one byte; clock, total and stage; and what the board shows.
+// The registers, RAM, the hash of the image, the ports, the mode, the timer, the external interrupt, the clock, and what the board shows.
 #[derive(Clone, Copy)]
 pub struct Snapshot {
-    pub a: u8,
-    pub x: u8,
-    pub sp: u8,
-    pub pc: u16,
-    pub condition: u8,
+    pub registers: Registers,
     pub ram: [u8; 64],
     pub image: u32,
     pub ports: Ports,
-    pub mode: u8,
-    pub control: u8,
-    pub interrupt: u8,
-    pub t: u32,
+    pub mode: Mode,
+    pub timer: Timer,
+    pub interrupt: Interrupt,
     pub total: u64,
-    pub stage: u8,
     pub shown: Reading,
 }
 
@@ -53,23 +48,15 @@ fn interrupt_byte(interrupt: &Interrupt) -> u8
 pub fn take_snapshot<B: Board>(machine: &Machine<B>) -> Snapshot
     ensures { result ≡ snapshot_of B.Board (state machine.now) }
 {
-    let registers = machine.registers();
-    let timer = machine.timer();
     Snapshot {
-        a: registers.a,
-        x: registers.x,
-        sp: registers.sp,
-        pc: registers.pc,
-        condition: registers.flags.condition_byte(),
+        registers: machine.registers(),
         ram: *machine.ram(),
         image: image_hash(machine.rom()),
         ports: machine.ports(),
-        mode: machine.mode().number(),
-        control: timer.control(),
-        interrupt: interrupt_byte(&machine.interrupt()),
-        t: timer.t,
+        mode: machine.mode(),
+        timer: machine.timer(),
+        interrupt: machine.interrupt(),
         total: machine.total(),
-        stage: timer.stage,
         shown: machine.board().show(),
     }
 }
@@ -82,16 +69,19 @@ impl fmt::Display for PortsText {
     ghost output = { λ x. Some (ports_text x.0) };
 
     fn fmt<W: fmt::Write>(&self, f: &mut fmt::Formatter<W>) -> fmt::Result {
-        let Ports { a, b } = self.0;
+        let Port {
+            latch: la,
+            direction: da,
+            pulldown: pa,
+        } = self.0.a;
+        let Port {
+            latch: lb,
+            direction: db,
+            pulldown: pb,
+        } = self.0.b;
         write!(
             f,
-            "LA={} DA={} PA={} LB={} DB={} PB={}",
-            HexByte(a.latch),
-            HexByte(a.direction),
-            HexByte(a.pulldown),
-            HexByte(b.latch),
-            HexByte(b.direction),
-            HexByte(b.pulldown)
+            "LA={la:02x} DA={da:02x} PA={pa:02x} LB={lb:02x} DB={db:02x} PB={pb:02x}"
         )
     }
 }
@@ -104,31 +94,36 @@ impl fmt::Display for ReadingText {
     ghost output = { λ x. Some (reading_text x.0) };
 
     fn fmt<W: fmt::Write>(&self, f: &mut fmt::Formatter<W>) -> fmt::Result {
-        let r = self.0;
-        write!(
-            f,
-            "{},{},{},{},{}",
-            r.level_a, r.open_a, r.level_b, r.open_b, r.irq
-        )
+        let Reading {
+            level_a,
+            open_a,
+            level_b,
+            open_b,
+            irq,
+        } = self.0;
+        write!(f, "{level_a},{open_a},{level_b},{open_b},{irq}")
     }
 }
 
 // A=.. to CC=.., the condition byte.
 #[derive(Clone, Copy)]
-struct CpuText(Snapshot);
+struct CpuText(Registers);
 
 impl fmt::Display for CpuText {
     ghost output = { λ x. Some (cpu_text x.0) };
 
     fn fmt<W: fmt::Write>(&self, f: &mut fmt::Formatter<W>) -> fmt::Result {
+        let Registers {
+            a,
+            x,
+            sp,
+            pc,
+            flags,
+        } = self.0;
+        let condition = flags.condition_byte();
         write!(
             f,
-            "A={} X={} SP={} PC={} CC={}",
-            HexByte(self.0.a),
-            HexByte(self.0.x),
-            HexByte(self.0.sp),
-            HexWord(self.0.pc),
-            HexByte(self.0.condition)
+            "A={a:02x} X={x:02x} SP={sp:02x} PC={pc:04x} CC={condition:02x}"
         )
     }
 }
@@ -141,12 +136,8 @@ impl fmt::Display for MemoryText {
     ghost output = { λ x. Some (memory_text x.0) };
 
     fn fmt<W: fmt::Write>(&self, f: &mut fmt::Formatter<W>) -> fmt::Result {
-        write!(
-            f,
-            "RAM={} IMG={}",
-            HexBytes(&self.0.ram),
-            HexQuad(self.0.image)
-        )
+        let image = self.0.image;
+        write!(f, "RAM={} IMG={image:08x}", HexBytes(&self.0.ram))
     }
 }
 
@@ -158,15 +149,21 @@ impl fmt::Display for ClockText {
     ghost output = { λ x. Some (clock_text x.0) };
 
     fn fmt<W: fmt::Write>(&self, f: &mut fmt::Formatter<W>) -> fmt::Result {
+        let Snapshot {
+            mode,
+            timer,
+            interrupt,
+            total,
+            ..
+        } = self.0;
         write!(
             f,
-            "MODE={} TSCR={} IRQ={} T={} TOTAL={} STAGE={}",
-            self.0.mode,
-            HexByte(self.0.control),
-            HexByte(self.0.interrupt),
-            self.0.t,
-            self.0.total,
-            self.0.stage
+            "MODE={} TSCR={:02x} IRQ={:02x} T={} TOTAL={total} STAGE={}",
+            u8::from(mode),
+            timer.control(),
+            interrupt_byte(&interrupt),
+            timer.t,
+            timer.stage
         )
     }
 }
@@ -178,7 +175,7 @@ impl fmt::Display for Snapshot {
         write!(
             f,
             "state {} {} {} {} SHOW={}",
-            CpuText(*self),
+            CpuText(self.registers),
             MemoryText(*self),
             PortsText(self.ports),
             ClockText(*self),

@@ -20,9 +20,9 @@ pub struct StepsAnswer {
 fn hash_step(hash: u32, answer: &StepAnswer) -> u32
     ensures { result ≡ hashed_step hash answer.now }
 {
-    let kind = fnv_with(hash, answer.kind.number());
+    let kind = fnv_with(hash, u8::from(answer.kind));
     let cost = fnv_with(kind, answer.cost);
-    fnv_with(cost, answer.reset.number())
+    fnv_with(cost, u8::from(answer.reset))
 }
 
 // Up to so many steps, ending at a refusal.

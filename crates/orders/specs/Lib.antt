@@ -1,4 +1,2 @@
 pub mod Names
-pub mod Arguments
 pub mod Calls
-pub mod Reasons

@@ -1,21 +1,14 @@
--- The names of the calls.
-use Rattle.std.specs.Prelude.{ℕ, cond, List, [], ◌∷◌, Some, None, codes, Option}
-use Rattle.std.specs.Str.{bytes_eq}
-use Rattle.orders.specs.declared.name.Name.{Name}
-use Rattle.orders.specs.declared.name.Name.TheVariants.{Board, Change, Bench, Bshow, Badvance, Btell, Bquiet, List as ListName, Load, Step, Steps, Run, State, Show, Trace, NotOffered}
+-- The names of the machine's calls.
+use Rattle.std.specs.Prelude.{ℕ, List, [], ◌∷◌, codes, Option}
+use Rattle.script.specs.Names.{lookup}
+
+pub data Name : Type 0 where
+  Load Step Steps Run State Show Trace : Name
 
 abbrev pub names : List (List ℕ × Name)
 names =
-    (codes "board", Board) ∷ (codes "change", Change) ∷ (codes "bench", Bench) ∷ (codes "bshow", Bshow)
-    ∷ (codes "badvance", Badvance) ∷ (codes "btell", Btell) ∷ (codes "bquiet", Bquiet) ∷ (codes "list", ListName)
-    ∷ (codes "load", Load) ∷ (codes "step", Step) ∷ (codes "steps", Steps) ∷ (codes "run", Run)
-    ∷ (codes "state", State) ∷ (codes "show", Show) ∷ (codes "trace", Trace)
-    ∷ (codes "save", NotOffered) ∷ (codes "open", NotOffered) ∷ (codes "reset", NotOffered) ∷ []
-
--- the value that stands with the word
-abbrev pub lookup : {X : Type 0} → List (List ℕ × X) → List ℕ → Option X
-lookup [] word = None
-lookup (p ∷ ps) word = cond (bytes_eq word p.0) (Some p.1) (lookup ps word)
+    (codes "load", Load) ∷ (codes "step", Step) ∷ (codes "steps", Steps) ∷ (codes "run", Run)
+    ∷ (codes "state", State) ∷ (codes "show", Show) ∷ (codes "trace", Trace) ∷ []
 
 abbrev pub name_of : List ℕ → Option Name
 name_of word = lookup names word

@@ -1,33 +1,5 @@
-// What a line of a script asks for, and why a line is no call.
-ghost use Rattle.std.specs.Prelude.{◌≡◌};
-ghost use Rattle.orders.specs.Reasons.{reason_of};
-
-use board::reading::{Outputs, Reading};
-
-// What a board is made for: a new machine, the living machine in place of its board, or to stand alone.
-#[derive(Clone, Copy)]
-pub enum Purpose {
-    NewMachine,
-    Replacement,
-    Alone,
-}
-
-// A board to make. The entries of a schedule, as many as said here, follow on lines of their own.
-#[derive(Clone, Copy)]
-pub enum Kind {
-    Switches(Reading),
-    Schedule(u32),
-    Matrix(u16),
-}
-
-// A call of the board that stands alone.
-#[derive(Clone, Copy)]
-pub enum BoardCall {
-    Show,
-    Advance(u16),
-    Tell(Outputs),
-    Quiet,
-}
+// What a line asks for where a machine is at hand.
+use script::call::Call;
 
 // A call of the machine.
 #[derive(Clone, Copy)]
@@ -40,43 +12,12 @@ pub enum MachineCall {
 }
 
 #[derive(Clone, Copy)]
-pub enum Call {
-    Make(Purpose, Kind),
-    OfBoard(BoardCall),
+pub enum Order {
+    // a call that needs no machine
+    OfScript(Call),
+    // the load of an image: the line's second word is its byte string
+    Load,
     OfMachine(MachineCall),
     // so many steps of the machine, told line by line
     Trace(u32),
-    // the load of an image: the line's second word is its byte string
-    Load,
-    // the listing of an image, given in the same way
-    Listing,
-    // a call of the language that this program does not offer
-    NotOffered,
-}
-
-// Why a line is no call.
-#[derive(Clone, Copy, PartialEq, Eq, Debug)]
-pub enum Problem {
-    UnknownCall,
-    UnknownBoard,
-    MissingArgument,
-    ExtraArgument,
-    BadNumber,
-    BadKeys,
-}
-
-impl Problem {
-    // The reason in a few words.
-    pub fn reason(self) -> &'static str
-        ensures { result.now ≡ reason_of self }
-    {
-        match self {
-            Problem::UnknownCall => "unknown call",
-            Problem::UnknownBoard => "unknown board",
-            Problem::MissingArgument => "missing argument",
-            Problem::ExtraArgument => "extra argument",
-            Problem::BadNumber => "bad number",
-            Problem::BadKeys => "bad keys",
-        }
-    }
 }

@@ -1,7 +1,5 @@
-// The bench program's script language: what each line asks for.
+// The script language of the bench program with machines: the script language, and the calls of a machine.
 #![tactic(auto)]
 
-mod argument;
 pub mod call;
-mod name;
 pub mod parse;

@@ -1,143 +1,34 @@
-// What each line of a script asks for.
+// What each line of a script asks for where a machine is at hand.
 ghost use Rattle.std.specs.Prelude.{◌≡◌};
 ghost use Rattle.text.specs.Words.{words};
-ghost use Rattle.orders.specs.Calls.{switches_line, schedule_line, matrix_line, board_line, bare_call, bytes_call, advance_of, tell_of, count_of, run_of, named, call_of, entry_of};
+ghost use Rattle.orders.specs.Calls.{count_of, call_of};
 
-use crate::argument::{end_at, keys_at, last_number_at, number_at, outputs_at, reading_at};
-use crate::call::{BoardCall, Call, Kind, MachineCall, Problem, Purpose};
-use crate::name::{Name, name_of};
-use board::schedule::Entry;
+use crate::call::{MachineCall, Order};
+use script::argument::{bare, last_number_at, with_bytes};
+use script::call::Problem;
+use script::parse::parse_call;
 use text::word::word_at;
-
-fn switches(line: &str) -> Result<Kind, Problem>
-    ensures { result ≡ switches_line (words line.now) }
-{
-    let reading = reading_at(line, 2)?;
-    end_at(line, 7)?;
-    Ok(Kind::Switches(reading))
-}
-
-fn schedule(line: &str) -> Result<Kind, Problem>
-    ensures { result ≡ schedule_line (words line.now) }
-{
-    let count = last_number_at(line, 2, u32::MAX as u64)?;
-    Ok(Kind::Schedule(count as u32))
-}
-
-fn matrix(line: &str) -> Result<Kind, Problem>
-    ensures { result ≡ matrix_line (words line.now) }
-{
-    let keys = keys_at(line, 2)?;
-    end_at(line, 3)?;
-    Ok(Kind::Matrix(keys))
-}
-
-// The board that a line describes.
-fn board_of(line: &str) -> Result<Kind, Problem>
-    ensures { result ≡ board_line (words line.now) }
-{
-    let Some(kind) = word_at(line, 1) else {
-        return Err(Problem::MissingArgument);
-    };
-    match kind {
-        "switches" => switches(line),
-        "schedule" => schedule(line),
-        "matrix" => matrix(line),
-        _ => Err(Problem::UnknownBoard),
-    }
-}
-
-// A call with no argument.
-fn bare(line: &str, call: Call) -> Result<Call, Problem>
-    ensures { result ≡ bare_call (words line.now) call }
-{
-    end_at(line, 1)?;
-    Ok(call)
-}
-
-// A call whose one argument is a byte string.
-fn with_bytes(line: &str, call: Call) -> Result<Call, Problem>
-    ensures { result ≡ bytes_call (words line.now) call }
-{
-    if word_at(line, 1).is_none() {
-        return Err(Problem::MissingArgument);
-    }
-    end_at(line, 2)?;
-    Ok(call)
-}
-
-fn advance(line: &str) -> Result<Call, Problem>
-    ensures { result ≡ advance_of (words line.now) }
-{
-    let cycles = last_number_at(line, 1, u16::MAX as u64)?;
-    Ok(Call::OfBoard(BoardCall::Advance(cycles as u16)))
-}
-
-fn tell(line: &str) -> Result<Call, Problem>
-    ensures { result ≡ tell_of (words line.now) }
-{
-    let outputs = outputs_at(line, 1)?;
-    end_at(line, 5)?;
-    Ok(Call::OfBoard(BoardCall::Tell(outputs)))
-}
 
 // How many steps a call asks for.
 fn count(line: &str) -> Result<u32, Problem>
     ensures { result ≡ count_of (words line.now) }
 {
-    let n = last_number_at(line, 1, u32::MAX as u64)?;
+    let n = last_number_at(line, 1, u64::from(u32::MAX))?;
     Ok(n as u32)
 }
 
-fn run(line: &str) -> Result<Call, Problem>
-    ensures { result ≡ run_of (words line.now) }
-{
-    let target = last_number_at(line, 1, u64::MAX)?;
-    Ok(Call::OfMachine(MachineCall::Run(target)))
-}
-
-fn named_call(name: Name, line: &str) -> Result<Call, Problem>
-    ensures { result ≡ named name (words line.now) }
-{
-    match name {
-        Name::Board => Ok(Call::Make(Purpose::NewMachine, board_of(line)?)),
-        Name::Change => Ok(Call::Make(Purpose::Replacement, board_of(line)?)),
-        Name::Bench => Ok(Call::Make(Purpose::Alone, board_of(line)?)),
-        Name::Bshow => bare(line, Call::OfBoard(BoardCall::Show)),
-        Name::Badvance => advance(line),
-        Name::Btell => tell(line),
-        Name::Bquiet => bare(line, Call::OfBoard(BoardCall::Quiet)),
-        Name::List => with_bytes(line, Call::Listing),
-        Name::Load => with_bytes(line, Call::Load),
-        Name::Step => bare(line, Call::OfMachine(MachineCall::Step)),
-        Name::Steps => Ok(Call::OfMachine(MachineCall::Steps(count(line)?))),
-        Name::Run => run(line),
-        Name::State => bare(line, Call::OfMachine(MachineCall::State)),
-        Name::Show => bare(line, Call::OfMachine(MachineCall::Show)),
-        Name::Trace => Ok(Call::Trace(count(line)?)),
-        Name::NotOffered => Ok(Call::NotOffered),
-    }
-}
-
-// The call that a line asks for, or why it asks for none.
-pub fn parse_call(line: &str) -> Result<Call, Problem>
+// The order of a line: the calls of the machine stand here, and every other call is the script language's.
+pub fn parse_order(line: &str) -> Result<Order, Problem>
     ensures { result ≡ call_of line.now }
 {
-    let Some(word) = word_at(line, 0) else {
-        return Err(Problem::UnknownCall);
-    };
-    let Some(name) = name_of(word) else {
-        return Err(Problem::UnknownCall);
-    };
-    named_call(name, line)
-}
-
-// One entry of a schedule.
-pub fn parse_entry(line: &str) -> Result<Entry, Problem>
-    ensures { result ≡ entry_of (words line.now) }
-{
-    let cycle = number_at(line, 0, u64::MAX)?;
-    let reading = reading_at(line, 1)?;
-    end_at(line, 6)?;
-    Ok(Entry { cycle, reading })
+    match word_at(line, 0).ok_or(Problem::UnknownCall)? {
+        "load" => with_bytes(line, Order::Load),
+        "step" => bare(line, Order::OfMachine(MachineCall::Step)),
+        "steps" => Ok(Order::OfMachine(MachineCall::Steps(count(line)?))),
+        "run" => Ok(Order::OfMachine(MachineCall::Run(last_number_at(line, 1, u64::MAX)?))),
+        "state" => bare(line, Order::OfMachine(MachineCall::State)),
+        "show" => bare(line, Order::OfMachine(MachineCall::Show)),
+        "trace" => Ok(Order::Trace(count(line)?)),
+        _ => Ok(Order::OfScript(parse_call(line)?)),
+    }
 }

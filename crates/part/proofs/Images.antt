@@ -1,19 +1,30 @@
--- The loop of the image check, at one byte.
-use Rattle.std.proofs.Common.{◌≡◌, ℕ, ◌+◌, ◌<◌, true, false, List, length, get_or, drop, Err, add-one, eq-eqb}
-use Rattle.std.proofs.lemmas.List.{drop_more}
+-- The check of an image, as the search for the first byte that it may not have.
+use Rattle.std.proofs.Common.{◌≡◌, ℕ, Bool, true, false, not, cond, Ok, Err, Result, Some, None, Option, List, [], ◌∷◌, length, suc, subst, refl, ◌∙◌, add-one, eq-eqb}
+use Rattle.std.specs.List.{find, zip, range_with_len}
+use Rattle.part.specs.declared.image.ImageRefused.{ImageRefused}
 use Rattle.part.specs.declared.image.ImageRefused.TheVariants.{Byte}
 use Rattle.part.specs.Image.{allowed, clean_from, image_checked}
 use Rattle.part.specs.Layout.{address_space}
 
-module _ (bytes : List ℕ) (i : ℕ) (h : i < length bytes) where
-  pub clean_more : allowed i (get_or bytes i 0) ≡ true → clean_from i (drop i bytes) ≡ clean_from (i + 1) (drop (i + 1) bytes)
-  unfolding clean_from
-  clean_more ok = rw (drop_more bytes i 0 h, ok, add-one)
+-- a byte that an image may not have at this address
+abbrev pub stray : ℕ × ℕ → Bool
+stray place = not (allowed place.0 place.1)
 
-  pub clean_stops : allowed i (get_or bytes i 0) ≡ false → clean_from i (drop i bytes) ≡ Err (Byte i)
-  unfolding clean_from
-  clean_stops bad = rw (drop_more bytes i 0 h, bad)
+abbrev pub verdict : Option (ℕ × ℕ) → Result (Unit {0}) ImageRefused
+verdict None = Ok tt
+verdict (Some place) = Err (Byte place.0)
 
--- a string of the right length is an image if its bytes are allowed
-pub of_length : (bytes : List ℕ) → length bytes ≡ address_space → image_checked bytes ≡ clean_from 0 bytes
-of_length bytes e = rw (eq-eqb (length bytes) address_space e)
+one : (ok : Bool) (a b : ℕ) (rest : Option (ℕ × ℕ)) (r : Result (Unit {0}) ImageRefused) → verdict rest ≡ r
+    → verdict (cond (not ok) (Some (a, b)) rest) ≡ cond ok r (Err (Byte a))
+one true a b rest r h = h
+one false a b rest r h = refl
+
+-- from this address on, the first stray byte decides
+found : (a : ℕ) (bs : List ℕ) → verdict (find stray (zip (range_with_len a (length bs)) bs)) ≡ clean_from a bs
+unfolding clean_from
+found a [] = refl
+found a (b ∷ bs) = one (allowed a b) a b _ _ (rw add-one (found (suc a) bs))
+
+-- a string of the right length is an image if it has none
+pub image_by_find : (bs : List ℕ) → length bs ≡ address_space → verdict (find stray (zip (range_with_len 0 2048) bs)) ≡ image_checked bs
+image_by_find bs e = subst (λ n. verdict (find stray (zip (range_with_len 0 n) bs)) ≡ clean_from 0 bs) e (found 0 bs) ∙ rw (eq-eqb (length bs) address_space e)

@@ -1,5 +1,7 @@
 -- Which strings of bytes are images.
-use Rattle.std.specs.Prelude.{ℕ, suc, Bool, cond, ◌||◌, List, [], ◌∷◌, length, Ok, Err, Result, ◌==◌}
+use Rattle.std.specs.Prelude.{ℕ, suc, Bool, cond, ◌||◌, List, [], ◌∷◌, ◌++◌, length, codes, Ok, Err, Result, ◌==◌}
+use Rattle.std.specs.Fmt.{decimal}
+use Rattle.refusal.specs.Numbers.{number_of}
 use Rattle.refusal.specs.declared.Refusal.{Refusal}
 use Rattle.refusal.specs.declared.Refusal.TheVariants.{ImageLength, ImageByte}
 use Rattle.part.specs.declared.image.ImageRefused.{ImageRefused}
@@ -22,3 +24,8 @@ image_checked bytes = cond (length bytes == address_space) (clean_from 0 bytes) 
 abbrev pub image_refusal : ImageRefused → Refusal
 image_refusal Length = ImageLength
 image_refusal (Byte address) = ImageByte
+
+-- the refusal's number, and the address of a byte: 1 and 2 703
+abbrev pub image_refused_text : ImageRefused → List ℕ
+image_refused_text Length = decimal (number_of ImageLength)
+image_refused_text (Byte address) = decimal (number_of ImageByte) ++ codes " " ++ decimal address

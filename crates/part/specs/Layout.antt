@@ -1,5 +1,5 @@
 -- Where the part's places lie.
-use Rattle.std.specs.Prelude.{ℕ, ◌+◌, ◌-◌, ◌%◌, Bool, cond, ◌&&◌, ◌||◌, ◌==◌, nat_le, nat_lt}
+use Rattle.std.specs.Prelude.{ℕ, ◌+◌, ◌-◌, ◌%◌, Bool, cond, ◌&&◌, ◌||◌, List, codes, ◌==◌, nat_le, nat_lt}
 use Rattle.part.specs.declared.layout.Vector.{Vector}
 use Rattle.part.specs.declared.layout.Vector.TheVariants.{Timer, External, Swi, Reset}
 
@@ -45,6 +45,13 @@ vector_address Timer = 0x7f8
 vector_address External = 0x7fa
 vector_address Swi = 0x7fc
 vector_address Reset = 0x7fe
+
+-- a vector's name
+abbrev pub vector_name : Vector → List ℕ
+vector_name Timer = codes "timer"
+vector_name External = codes "external"
+vector_name Swi = codes "SWI"
+vector_name Reset = codes "reset"
 
 -- where a branch goes: the offset is a signed byte, counted from the address of the next instruction
 abbrev pub branch_target : ℕ → ℕ → ℕ

@@ -1,6 +1,8 @@
 // Where memories, option byte and vectors of the part lie; the addresses of its registers stand in the map of the chip.
-ghost use Rattle.std.specs.Prelude.{◌≡◌, ◌%◌};
-ghost use Rattle.part.specs.Layout.{address_space, between, branch_target, executable, from_image, vector_address};
+ghost use Rattle.std.specs.Prelude.{◌≡◌, ◌%◌, Some};
+ghost use Rattle.part.specs.Layout.{address_space, between, branch_target, executable, from_image, vector_address, vector_name};
+
+use std::fmt;
 
 // Addresses are taken modulo this; an image has as many bytes.
 pub const ADDRESS_SPACE: u16 = 2048;
@@ -46,6 +48,20 @@ impl Vector {
     }
 }
 
+// Its name: `timer`, `external`, `SWI`, `reset`.
+impl fmt::Display for Vector {
+    ghost output = { λ vector. Some (vector_name vector) };
+
+    fn fmt<W: fmt::Write>(&self, f: &mut fmt::Formatter<W>) -> fmt::Result {
+        f.write_str(match self {
+            Vector::Timer => "timer",
+            Vector::External => "external",
+            Vector::Swi => "SWI",
+            Vector::Reset => "reset",
+        })
+    }
+}
+
 // The address as the part sees it.
 pub fn wrapped(address: u16) -> u16
     ensures { result ≡ address % address_space }
@@ -57,16 +73,16 @@ pub fn wrapped(address: u16) -> u16
 pub fn between(first: u16, last: u16, address: u16) -> bool
     ensures { result ≡ between first last address }
 {
-    first <= address && address <= last
+    (first..=last).contains(&address)
 }
 
 // Whether the byte at this address comes from the image: EPROM, option byte or vectors.
 pub fn from_image(address: u16) -> bool
     ensures { result ≡ from_image address }
 {
-    (EPROM_FIRST <= address && address <= EPROM_LAST)
+    between(EPROM_FIRST, EPROM_LAST, address)
         || address == OPTION_BYTE
-        || (VECTORS_FIRST <= address && address <= VECTORS_LAST)
+        || between(VECTORS_FIRST, VECTORS_LAST, address)
 }
 
 // Whether an instruction may lie at this address: in RAM or EPROM.
@@ -80,6 +96,5 @@ pub fn executable(address: u16) -> bool
 pub fn branch_target(next: u16, offset: u8) -> u16
     ensures { result ≡ branch_target next offset }
 {
-    let back = if offset < 128 { 0 } else { 256 };
-    wrapped(next.wrapping_add(offset as u16).wrapping_sub(back))
+    wrapped(next.wrapping_add_signed(i16::from(offset.cast_signed())))
 }

@@ -15,7 +15,7 @@ pub struct Rom {
 }
 
 impl Rom {
-    // All 0.
+    // All 0; no `Default`, which Rust has only for arrays of at most 32 elements.
     pub fn blank() -> Rom
         ensures { result ≡ blank_rom }
     {
@@ -32,24 +32,22 @@ impl Rom {
         ensures { self.new ≡ rom_of image.now }
     {
         self.eprom
-            .copy_from_slice(&image[EPROM_FIRST as usize..EPROM_LAST as usize + 1]);
-        self.options = image[OPTION_BYTE as usize];
-        self.vectors
-            .copy_from_slice(&image[VECTORS_FIRST as usize..VECTORS_LAST as usize + 1]);
+            .copy_from_slice(&image[usize::from(EPROM_FIRST)..=usize::from(EPROM_LAST)]);
+        self.options = image[usize::from(OPTION_BYTE)];
+        self.vectors.copy_from_slice(
+            &image[usize::from(VECTORS_FIRST)..=usize::from(VECTORS_LAST)],
+        );
     }
 
     // The address that a vector gives.
     pub fn vector(&self, vector: Vector) -> u16
         ensures { result ≡ vector_in vector self.now }
     {
-        let at = match vector {
-            Vector::Timer => 0,
-            Vector::External => 2,
-            Vector::Swi => 4,
-            Vector::Reset => 6,
-        };
+        let at = usize::from(vector.address() - VECTORS_FIRST);
         wrapped(u16::from_be_bytes([self.vectors[at], self.vectors[at + 1]]))
     }
+
+    // Five names over one test of a bit: the option byte has these five questions, and callers ask by name.
 
     // Whether STOP acts as WAIT.
     pub fn swait(&self) -> bool

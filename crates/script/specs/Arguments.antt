@@ -35,6 +35,22 @@ ended None = Ok tt
 abbrev pub end_at : List (List ℕ) → ℕ → Result (Unit {0}) Problem
 end_at ws place = ended (nth ws place)
 
+-- the value, if the words end before this place
+abbrev pub ending : {X : Type 0} → List (List ℕ) → ℕ → X → Result X Problem
+ending ws place x = next (end_at ws place) (λ _. Ok x)
+
+-- the number at this place, as the last word
+abbrev pub last_number : ℕ → List (List ℕ) → ℕ → Result ℕ Problem
+last_number limit ws place = next (number_argument limit ws place) (λ n. ending ws (place + 1) n)
+
+-- a call with no argument
+abbrev pub bare_call : {X : Type 0} → List (List ℕ) → X → Result X Problem
+bare_call ws x = ending ws 1 x
+
+-- the one argument is a byte string
+abbrev pub bytes_call : {X : Type 0} → List (List ℕ) → X → Result X Problem
+bytes_call ws x = next (word_argument ws 1) (λ _. ending ws 2 x)
+
 -- five numbers from this place on: level A, open A, level B, open B, IRQ
 abbrev pub reading_argument : List (List ℕ) → ℕ → Result Reading Problem
 reading_argument ws place =

@@ -2,8 +2,6 @@
 use Rattle.std.specs.Prelude.{ℕ, ◌-◌, ◌^◌, cond, List, Ok, Err, codes, Result}
 use Rattle.std.specs.Str.{bytes_eq}
 use Rattle.board.specs.declared.schedule.Entry.{Entry}
-use Rattle.script.specs.declared.name.Name.{Name}
-use Rattle.script.specs.declared.name.Name.TheVariants.{Board, Change, Bench, Bshow, Badvance, Btell, Bquiet, List as ListName, NotOffered as NoOffer}
 use Rattle.script.specs.declared.call.Purpose.TheVariants.{NewMachine, Replacement, Alone}
 use Rattle.script.specs.declared.call.Call.{Call}
 use Rattle.script.specs.declared.call.Call.TheVariants.{Make, OfBoard, Listing, NotOffered}
@@ -14,12 +12,8 @@ use Rattle.script.specs.declared.call.Problem.{Problem}
 use Rattle.script.specs.declared.call.Problem.TheVariants.{UnknownCall, UnknownBoard}
 use Rattle.text.specs.Words.{words, nth}
 use Rattle.text.specs.Hex.{and_then}
-use Rattle.script.specs.Names.{name_of}
-use Rattle.script.specs.Arguments.{next, or_else, word_argument, number_argument, reading_argument, outputs_argument, keys_argument, end_at}
-
--- the value, if the words end before this place
-abbrev pub ending : {X : Type 0} → List (List ℕ) → ℕ → X → Result X Problem
-ending ws place x = next (end_at ws place) (λ _. Ok x)
+use Rattle.script.specs.Names.{Name, Board, Change, Bench, Bshow, Badvance, Btell, Bquiet, ListName, NoOffer, name_of}
+use Rattle.script.specs.Arguments.{next, or_else, word_argument, number_argument, reading_argument, outputs_argument, keys_argument, ending}
 
 -- switches LA OA LB OB IRQ
 abbrev pub switches_line : List (List ℕ) → Result Kind Problem

@@ -1,8 +1,10 @@
 -- The names of the calls.
 use Rattle.std.specs.Prelude.{ℕ, cond, List, [], ◌∷◌, Some, None, codes, Option}
 use Rattle.std.specs.Str.{bytes_eq}
-use Rattle.script.specs.declared.name.Name.{Name}
-use Rattle.script.specs.declared.name.Name.TheVariants.{Board, Change, Bench, Bshow, Badvance, Btell, Bquiet, List as ListName, NotOffered as NoOffer}
+
+-- NoOffer: a call of the language that the program does not offer
+pub data Name : Type 0 where
+  Board Change Bench Bshow Badvance Btell Bquiet ListName NoOffer : Name
 
 abbrev pub names : List (List ℕ × Name)
 names =

@@ -1,8 +1,9 @@
 // What a line of a script asks for, and why a line is no call.
-ghost use Rattle.std.specs.Prelude.{◌≡◌};
+ghost use Rattle.std.specs.Prelude.{◌≡◌, Some};
 ghost use Rattle.script.specs.Reasons.{reason_of};
 
 use board::reading::{Outputs, Reading};
+use std::fmt;
 
 // What a board is made for: a new machine, the living machine in place of its board, or to stand alone.
 #[derive(Clone, Copy)]
@@ -63,5 +64,13 @@ impl Problem {
             Problem::BadNumber => "bad number",
             Problem::BadKeys => "bad keys",
         }
+    }
+}
+
+impl fmt::Display for Problem {
+    ghost output = { λ problem. Some (reason_of problem) };
+
+    fn fmt<W: fmt::Write>(&self, f: &mut fmt::Formatter<W>) -> fmt::Result {
+        f.write_str(self.reason())
     }
 }

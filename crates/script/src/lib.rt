@@ -1,7 +1,6 @@
-// The bench program's script language: what each line asks for.
+// The script language of the bench programs: what each line asks for.
 #![tactic(auto)]
 
-mod argument;
+pub mod argument;
 pub mod call;
-mod name;
 pub mod parse;

@@ -1,11 +1,12 @@
 // What each line of a script asks for.
 ghost use Rattle.std.specs.Prelude.{◌≡◌};
 ghost use Rattle.text.specs.Words.{words};
-ghost use Rattle.script.specs.Calls.{switches_line, schedule_line, matrix_line, board_line, advance_of, tell_of, list_of, call_of, entry_of, named};
+ghost use Rattle.script.specs.Calls.{switches_line, schedule_line, matrix_line, board_line, advance_of, tell_of, call_of, entry_of};
 
-use crate::argument::{end_at, keys_at, number_at, outputs_at, reading_at};
+use crate::argument::{
+    bare, end_at, keys_at, last_number_at, number_at, outputs_at, reading_at, with_bytes,
+};
 use crate::call::{BoardCall, Call, Kind, Problem, Purpose};
-use crate::name::{Name, name_of};
 use board::schedule::Entry;
 use text::word::word_at;
 
@@ -20,8 +21,7 @@ fn switches(line: &str) -> Result<Kind, Problem>
 fn schedule(line: &str) -> Result<Kind, Problem>
     ensures { result ≡ schedule_line (words line.now) }
 {
-    let count = number_at(line, 2, u32::MAX as u64)?;
-    end_at(line, 3)?;
+    let count = last_number_at(line, 2, u64::from(u32::MAX))?;
     Ok(Kind::Schedule(count as u32))
 }
 
@@ -37,10 +37,7 @@ fn matrix(line: &str) -> Result<Kind, Problem>
 fn board_of(line: &str) -> Result<Kind, Problem>
     ensures { result ≡ board_line (words line.now) }
 {
-    let Some(kind) = word_at(line, 1) else {
-        return Err(Problem::MissingArgument);
-    };
-    match kind {
+    match word_at(line, 1).ok_or(Problem::MissingArgument)? {
         "switches" => switches(line),
         "schedule" => schedule(line),
         "matrix" => matrix(line),
@@ -51,8 +48,7 @@ fn board_of(line: &str) -> Result<Kind, Problem>
 fn advance(line: &str) -> Result<Call, Problem>
     ensures { result ≡ advance_of (words line.now) }
 {
-    let cycles = number_at(line, 1, u16::MAX as u64)?;
-    end_at(line, 2)?;
+    let cycles = last_number_at(line, 1, u64::from(u16::MAX))?;
     Ok(Call::OfBoard(BoardCall::Advance(cycles as u16)))
 }
 
@@ -64,49 +60,24 @@ fn tell(line: &str) -> Result<Call, Problem>
     Ok(Call::OfBoard(BoardCall::Tell(outputs)))
 }
 
-fn list(line: &str) -> Result<Call, Problem>
-    ensures { result ≡ list_of (words line.now) }
-{
-    if word_at(line, 1).is_none() {
-        return Err(Problem::MissingArgument);
-    }
-    end_at(line, 2)?;
-    Ok(Call::Listing)
-}
-
-fn named_call(name: Name, line: &str) -> Result<Call, Problem>
-    ensures { result ≡ named name (words line.now) }
-{
-    match name {
-        Name::Board => Ok(Call::Make(Purpose::NewMachine, board_of(line)?)),
-        Name::Change => Ok(Call::Make(Purpose::Replacement, board_of(line)?)),
-        Name::Bench => Ok(Call::Make(Purpose::Alone, board_of(line)?)),
-        Name::Bshow => {
-            end_at(line, 1)?;
-            Ok(Call::OfBoard(BoardCall::Show))
-        }
-        Name::Badvance => advance(line),
-        Name::Btell => tell(line),
-        Name::Bquiet => {
-            end_at(line, 1)?;
-            Ok(Call::OfBoard(BoardCall::Quiet))
-        }
-        Name::List => list(line),
-        Name::NotOffered => Ok(Call::NotOffered),
-    }
-}
-
 // The call that a line asks for, or why it asks for none.
 pub fn parse_call(line: &str) -> Result<Call, Problem>
     ensures { result ≡ call_of line.now }
 {
-    let Some(word) = word_at(line, 0) else {
-        return Err(Problem::UnknownCall);
-    };
-    let Some(name) = name_of(word) else {
-        return Err(Problem::UnknownCall);
-    };
-    named_call(name, line)
+    match word_at(line, 0).ok_or(Problem::UnknownCall)? {
+        "board" => Ok(Call::Make(Purpose::NewMachine, board_of(line)?)),
+        "change" => Ok(Call::Make(Purpose::Replacement, board_of(line)?)),
+        "bench" => Ok(Call::Make(Purpose::Alone, board_of(line)?)),
+        "bshow" => bare(line, Call::OfBoard(BoardCall::Show)),
+        "badvance" => advance(line),
+        "btell" => tell(line),
+        "bquiet" => bare(line, Call::OfBoard(BoardCall::Quiet)),
+        "list" => with_bytes(line, Call::Listing),
+        "load" | "step" | "steps" | "run" | "save" | "open" | "reset" | "state" | "show" => Ok(
+            Call::NotOffered,
+        ),
+        _ => Err(Problem::UnknownCall),
+    }
 }
 
 // One entry of a schedule.

@@ -1,1 +1,1 @@
-pub mod Sessions
+mod Schedules

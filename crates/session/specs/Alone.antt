@@ -1,17 +1,18 @@
--- The board that stands alone, beside the machine.
+-- The board that stands alone, beside a machine.
 use Rattle.std.specs.Prelude.{Some, None, Ok, Err, Option, Result}
 use Rattle.board.specs.declared.any.AnyBoard.{AnyBoard}
 use Rattle.board.specs.declared.refused.BadEntry.{BadEntry}
 use Rattle.board.specs.Any.{any_shows, any_advanced, any_told, any_quiet}
-use Rattle.orders.specs.declared.call.Purpose.{Purpose}
-use Rattle.orders.specs.declared.call.Purpose.TheVariants.{NewMachine, Replacement, Alone}
-use Rattle.orders.specs.declared.call.BoardCall.{BoardCall}
-use Rattle.orders.specs.declared.call.BoardCall.TheVariants.{Show, Advance, Tell, Quiet}
-use Rattle.session.specs.declared.answer.Failure.TheVariants.{NotOffered, NoBoard}
+use Rattle.script.specs.declared.call.Purpose.{Purpose}
+use Rattle.script.specs.declared.call.Purpose.TheVariants.{NewMachine, Replacement, Alone}
+use Rattle.script.specs.declared.call.BoardCall.{BoardCall}
+use Rattle.script.specs.declared.call.BoardCall.TheVariants.{Show, Advance, Tell, Quiet}
+use Rattle.session.specs.declared.failure.Failure.{Failure}
+use Rattle.session.specs.declared.failure.Failure.TheVariants.{NotOffered, NoBoard, Board}
 use Rattle.session.specs.declared.answer.Answer.{Answer}
+use Rattle.session.specs.declared.answer.Answer.TheVariants.{Done, Shown, Quiet as QuietFor}
 use Rattle.session.specs.declared.reply.Reply.{Reply}
 use Rattle.session.specs.declared.reply.Reply.TheVariants.{Said, Begin}
-use Rattle.session.specs.declared.answer.Answer.TheVariants.{Done, Refused, Shown, Quiet as QuietFor, Failed}
 
 -- the board that stands alone after one was made
 abbrev pub placed : Purpose → Result AnyBoard BadEntry → Option AnyBoard → Option AnyBoard
@@ -21,12 +22,12 @@ placed Alone (Ok board) old = Some board
 placed Alone (Err bad) old = old
 
 -- a board for a new machine is handed on; none can be put in place of a machine's own yet
-abbrev pub placed_reply : Purpose → Result AnyBoard BadEntry → Reply
-placed_reply NewMachine (Ok board) = Begin board
-placed_reply NewMachine (Err bad) = Said (Refused bad)
-placed_reply Replacement made = Said (Failed NotOffered)
-placed_reply Alone (Ok board) = Said Done
-placed_reply Alone (Err bad) = Said (Refused bad)
+abbrev pub placed_reply : Purpose → Result AnyBoard BadEntry → Result Reply Failure
+placed_reply NewMachine (Ok board) = Ok (Begin board)
+placed_reply NewMachine (Err bad) = Err (Board bad)
+placed_reply Replacement made = Err NotOffered
+placed_reply Alone (Ok board) = Ok (Said Done)
+placed_reply Alone (Err bad) = Err (Board bad)
 
 -- the board after a call
 abbrev pub board_after : BoardCall → AnyBoard → AnyBoard
@@ -46,6 +47,6 @@ answer_of (Tell outputs) board = Done
 answer_of Quiet board = QuietFor (any_quiet board)
 
 -- the answer to a call, which needs a board
-abbrev pub answered : BoardCall → Option AnyBoard → Answer
-answered call None = Failed NoBoard
-answered call (Some board) = answer_of call board
+abbrev pub answered : BoardCall → Option AnyBoard → Result Answer Failure
+answered call None = Err NoBoard
+answered call (Some board) = Ok (answer_of call board)

@@ -1,32 +1,25 @@
--- The text of each answer.
-use Rattle.std.specs.Prelude.{ℕ, List, ◌++◌, codes}
-use Rattle.refusal.specs.Numbers.{number_of}
-use Rattle.refusal.specs.declared.Refusal.TheVariants.{Board}
-use Rattle.operate.specs.Answer.{spaced, answer_text as machine_text}
-use Rattle.operate.specs.declared.answer.MachineAnswer.TheVariants as machine
-use Rattle.orders.specs.Reasons.{reason_of}
-use Rattle.session.specs.declared.answer.Failure.{Failure}
-use Rattle.session.specs.declared.answer.Failure.TheVariants.{NotOffered, NoBoard, NoMachine, BadEntry, MissingEntries, BadBytes, UnreadFile, Line}
+-- The text of each answer, and of each reason why there is none.
+use Rattle.std.specs.Prelude.{ℕ, List, ◌++◌, codes, decimal, Ok, Err, Result}
+use Rattle.board.specs.Reading.{reading_text}
+use Rattle.board.specs.Refused.{bad_entry_text}
+use Rattle.part.specs.Image.{image_refused_text}
+use Rattle.script.specs.Reasons.{reason_of}
+use Rattle.session.specs.declared.failure.Failure.{Failure}
+use Rattle.session.specs.declared.failure.Failure.TheVariants.{NotOffered, NoBoard, BadEntry, MissingEntries, BadBytes, UnreadFile, Line, Board, Image}
 use Rattle.session.specs.declared.answer.Answer.{Answer}
-use Rattle.session.specs.declared.answer.Answer.TheVariants.{Done, Refused, NoImage, Listed, Shown, Quiet, OfMachine, Traced, Failed}
+use Rattle.session.specs.declared.answer.Answer.TheVariants.{Done, Listed, Shown, Quiet}
 
-abbrev pub failure_text : Failure → List ℕ
-failure_text NotOffered = codes "not offered"
-failure_text NoBoard = codes "no board"
-failure_text NoMachine = codes "no machine"
-failure_text BadEntry = codes "bad entry"
-failure_text MissingEntries = codes "missing entries"
-failure_text BadBytes = codes "bad bytes"
-failure_text UnreadFile = codes "cannot read file"
-failure_text (Line problem) = reason_of problem
-
-abbrev pub answer_text : Answer → List ℕ
-answer_text Done = codes "ok"
-answer_text (Refused bad) = codes "refused" ++ (spaced (number_of Board) ++ spaced bad.index)
-answer_text (NoImage refused) = machine_text (machine.NotLoaded refused)
-answer_text (Listed lines) = codes "ok" ++ spaced lines
-answer_text (Shown r) = machine_text (machine.Shown r)
-answer_text (Quiet cycles) = codes "quiet" ++ spaced cycles
-answer_text (OfMachine answer) = machine_text answer
-answer_text (Traced steps) = codes "ok" ++ spaced steps
-answer_text (Failed failure) = codes "error " ++ failure_text failure
+abbrev pub answer_text : Result Answer Failure → List ℕ
+answer_text (Ok Done) = codes "ok"
+answer_text (Ok (Listed lines)) = codes "ok " ++ decimal lines
+answer_text (Ok (Shown reading)) = codes "show " ++ reading_text reading
+answer_text (Ok (Quiet cycles)) = codes "quiet " ++ decimal cycles
+answer_text (Err (Board bad)) = codes "refused " ++ bad_entry_text bad
+answer_text (Err (Image refused)) = codes "refused " ++ image_refused_text refused
+answer_text (Err NotOffered) = codes "error not offered"
+answer_text (Err NoBoard) = codes "error no board"
+answer_text (Err BadEntry) = codes "error bad entry"
+answer_text (Err MissingEntries) = codes "error missing entries"
+answer_text (Err BadBytes) = codes "error bad bytes"
+answer_text (Err UnreadFile) = codes "error cannot read file"
+answer_text (Err (Line problem)) = codes "error " ++ reason_of problem

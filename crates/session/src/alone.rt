@@ -1,39 +1,41 @@
-// The board that stands alone, beside the machine.
+// The board that stands alone, beside a machine.
 ghost use Rattle.std.specs.Prelude.{◌≡◌};
 ghost use Rattle.session.specs.Alone.{placed, placed_reply, alone_after, answered};
 
-use crate::answer::{Answer, Failure};
+use crate::answer::Answer;
 use crate::boards::Made;
+use crate::failure::Failure;
 use crate::reply::Reply;
 use board::any::AnyBoard;
 use board::contract::Board;
-use orders::call::{BoardCall, Purpose};
+use script::call::{BoardCall, Purpose};
 
 // Puts a board that was made in its place: one for a new machine is handed on.
-pub fn place(alone: &mut Option<AnyBoard<'static>>, purpose: Purpose, made: Made) -> Reply
+pub fn place(
+    alone: &mut Option<AnyBoard<'static>>,
+    purpose: Purpose,
+    made: Made,
+) -> Result<Reply, Failure>
     ensures after { alone.new ≡ placed purpose made.entry alone.old }
     ensures value { result ≡ placed_reply purpose made.entry }
 {
-    match (purpose, made) {
-        (Purpose::Replacement, _) => Reply::Said(Answer::Failed(Failure::NotOffered)),
-        (_, Err(bad)) => Reply::Said(Answer::Refused(bad)),
-        (Purpose::NewMachine, Ok(board)) => Reply::Begin(board),
-        (Purpose::Alone, Ok(board)) => {
-            *alone = Some(board);
-            Reply::Said(Answer::Done)
+    match purpose {
+        Purpose::NewMachine => Ok(Reply::Begin(made?)),
+        Purpose::Replacement => Err(Failure::NotOffered),
+        Purpose::Alone => {
+            *alone = Some(made?);
+            Ok(Reply::Said(Answer::Done))
         }
     }
 }
 
 // Makes a call of the board that stands alone.
-pub fn call_board(alone: &mut Option<AnyBoard<'static>>, call: BoardCall) -> Answer
+pub fn call_board(alone: &mut Option<AnyBoard<'static>>, call: BoardCall) -> Result<Answer, Failure>
     ensures after { alone.new ≡ alone_after call alone.old }
     ensures value { result ≡ answered call alone.old }
 {
-    let Some(board) = alone else {
-        return Answer::Failed(Failure::NoBoard);
-    };
-    match call {
+    let board = alone.as_mut().ok_or(Failure::NoBoard)?;
+    Ok(match call {
         BoardCall::Show => Answer::Shown(board.show()),
         BoardCall::Quiet => Answer::Quiet(board.quiet()),
         BoardCall::Advance(n) => {
@@ -44,5 +46,5 @@ pub fn call_board(alone: &mut Option<AnyBoard<'static>>, call: BoardCall) -> Ans
             board.tell(outputs);
             Answer::Done
         }
-    }
+    })
 }

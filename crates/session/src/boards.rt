@@ -1,5 +1,5 @@
 // The boards that a script describes.
-ghost use Rattle.std.specs.Prelude.{◌≡◌, IfOk};
+ghost use Rattle.std.specs.Prelude.{◌≡◌};
 ghost use Rattle.session.specs.Boards.{switches_made, matrix_made, ScheduleMade};
 
 use board::any::AnyBoard;
@@ -8,7 +8,6 @@ use board::reading::Reading;
 use board::refused::BadEntry;
 use board::schedule::{Entry, Schedule};
 use board::switches::Switches;
-use std::alloc::{AllocError, Global};
 
 pub type Made = Result<AnyBoard<'static>, BadEntry>;
 
@@ -25,12 +24,8 @@ pub fn matrix(keys: u16) -> Made
 }
 
 // The schedule of these entries, which are kept until the program ends, since the board refers to them.
-pub fn schedule(heap: Global, entries: Vec<Entry>) -> Result<Made, AllocError>
-    ensures { IfOk result (λ m. ScheduleMade entries.items m) }
+pub fn schedule(entries: Vec<Entry>) -> Made
+    ensures { ScheduleMade entries.items result }
 {
-    let kept: &'static Vec<Entry> = Box::leak(Box::new(heap, entries)?);
-    match Schedule::new(kept.as_slice()) {
-        Ok(board) => Ok(Ok(AnyBoard::Schedule(board))),
-        Err(bad) => Ok(Err(bad)),
-    }
+    Schedule::new(entries.leak()).map(AnyBoard::Schedule)
 }

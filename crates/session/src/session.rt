@@ -1,163 +1,161 @@
 // A script's session: the board that stands alone, and a schedule whose entries are still to be read.
-ghost use Rattle.std.specs.Prelude.{◌≡◌, IfOk};
+ghost use Rattle.std.specs.Prelude.{◌≡◌, IfOk, is_some};
 ghost use Rattle.text.specs.Words.{words};
-ghost use Rattle.orders.specs.Calls.{call_of, entry_of};
-ghost use Rattle.session.specs.Session.{fresh, end_reply, Read, Begun, MadeOf, Called, WithLine, EntryRead, LineRead};
+ghost use Rattle.script.specs.Calls.{entry_of};
+ghost use Rattle.session.specs.Session.{fresh, end_reply, Read, Begun, MadeOf, CallMade, WithLine, EntryHeard, LineRead};
 
 use crate::alone::{call_board, place};
-use crate::answer::{Answer, Failure};
 use crate::boards::{matrix, schedule, switches};
-use crate::reply::Reply;
+use crate::failure::Failure;
+use crate::reply::{Outcome, Reply};
 use board::any::AnyBoard;
 use board::schedule::Entry;
-use orders::call::{Call, Kind, Purpose};
-use orders::parse::{parse_call, parse_entry};
+use script::call::{Call, Kind, Purpose};
+use script::parse::{parse_call, parse_entry};
 use std::alloc::{AllocError, Global};
 use text::line::is_skipped;
 
-// A schedule whose entries follow: how many are still to come, and whether a line was no entry.
+// A schedule whose entries follow: how many are still to come, and those read so far, or none once a line was no entry.
 #[derive(Drop)]
 pub struct Waiting {
     purpose: Purpose,
     left: u32,
-    entries: Vec<Entry>,
-    bad_line: bool,
+    entries: Option<Vec<Entry>>,
 }
 
+// The entries lie on its heap.
 #[derive(Drop)]
 pub struct Session {
+    heap: Global,
     alone: Option<AnyBoard<'static>>,
     waiting: Option<Waiting>,
 }
 
 impl Waiting {
-    // One line read: its entry comes last, and a line that is none is noted.
+    // One line read: its entry comes last, and a line that is none leaves no entries.
     fn with_line(self, line: &str) -> Result<Waiting, AllocError>
         ensures { IfOk result (λ w. WithLine (entry_of (words line.now)) self w) }
     {
-        let Waiting {
-            purpose,
-            left,
-            mut entries,
-            mut bad_line,
-        } = self;
-        match parse_entry(line) {
-            Ok(entry) => entries.push(entry)?,
-            Err(_) => bad_line = true,
-        }
-        let left = left.saturating_sub(1);
+        let entries = match (self.entries, parse_entry(line)) {
+            (Some(mut entries), Ok(entry)) => {
+                entries.push(entry)?;
+                Some(entries)
+            }
+            _ => None,
+        };
         Ok(Waiting {
-            purpose,
-            left,
+            purpose: self.purpose,
+            left: self.left.saturating_sub(1),
             entries,
-            bad_line,
         })
     }
 }
 
 impl Session {
-    pub fn new() -> Session
-        ensures { result ≡ fresh }
+    pub fn new(heap: Global) -> Session
+        ensures { result ≡ fresh heap }
     {
         Session {
+            heap,
             alone: None,
             waiting: None,
         }
     }
 
-    // One line of the script.
-    pub fn line(&mut self, heap: Global, line: &str) -> Result<Reply, AllocError>
+    // One line of a script that makes no calls of a machine.
+    pub fn line(&mut self, line: &str) -> Result<Outcome, AllocError>
         ensures { IfOk result (λ reply. LineRead line.now self.old reply self.new) }
     {
         if is_skipped(line) {
-            return Ok(Reply::Nothing);
+            return Ok(Ok(None));
         }
-        match self.waiting.take() {
-            Some(waiting) => self.entry(heap, waiting, line),
-            None => self.call(heap, line),
+        if self.awaits_entry() {
+            return self.entry(line);
         }
+        Ok(match parse_call(line) {
+            Ok(call) => self.call(call),
+            Err(problem) => Err(problem.into()),
+        })
     }
 
     // The script is at its end.
-    pub fn end(&self) -> Reply
+    pub fn end(&self) -> Outcome
         ensures { result ≡ end_reply self.now.waiting }
     {
         match self.waiting {
-            Some(_) => Reply::Said(Answer::Failed(Failure::MissingEntries)),
-            None => Reply::Nothing,
+            Some(_) => Err(Failure::MissingEntries),
+            None => Ok(None),
         }
     }
 
-    // One entry of a schedule.
-    fn entry(&mut self, heap: Global, waiting: Waiting, line: &str) -> Result<Reply, AllocError>
-        ensures { IfOk result (λ reply. EntryRead (entry_of (words line.now)) waiting self.old reply self.new) }
+    // Whether the next line is an entry of a schedule.
+    pub fn awaits_entry(&self) -> bool
+        ensures { result ≡ is_some self.now.waiting }
     {
-        let waiting = waiting.with_line(line)?;
-        self.read_on(heap, waiting)
+        self.waiting.is_some()
     }
 
-    // Waits for the entries that are still to come, or makes the board.
-    fn read_on(&mut self, heap: Global, waiting: Waiting) -> Result<Reply, AllocError>
-        ensures { IfOk result (λ reply. Read waiting self.old reply self.new) }
+    // One entry of the schedule that is awaited; with none awaited the line does nothing.
+    pub fn entry(&mut self, line: &str) -> Result<Outcome, AllocError>
+        ensures { IfOk result (λ reply. EntryHeard self.old.waiting (entry_of (words line.now)) self.old reply self.new) }
     {
-        if waiting.left > 0 {
-            self.waiting = Some(waiting);
-            return Ok(Reply::Nothing);
-        }
-        let Waiting {
-            purpose,
-            left: _,
-            entries,
-            bad_line,
-        } = waiting;
-        if bad_line {
-            return Ok(Reply::Said(Answer::Failed(Failure::BadEntry)));
-        }
-        let board = schedule(heap, entries)?;
-        Ok(place(&mut self.alone, purpose, board))
-    }
-
-    // Begins to read a schedule of so many entries.
-    fn begin(&mut self, heap: Global, purpose: Purpose, left: u32) -> Result<Reply, AllocError>
-        ensures { IfOk result (λ reply. Begun purpose left self.old reply self.new) }
-    {
-        let entries = Vec::new(heap);
-        self.read_on(
-            heap,
-            Waiting {
-                purpose,
-                left,
-                entries,
-                bad_line: false,
-            },
-        )
-    }
-
-    // Makes the board that a call describes.
-    fn make(&mut self, heap: Global, purpose: Purpose, kind: Kind) -> Result<Reply, AllocError>
-        ensures { IfOk result (λ reply. MadeOf purpose kind self.old reply self.new) }
-    {
-        let board = match kind {
-            Kind::Switches(reading) => switches(reading),
-            Kind::Matrix(keys) => matrix(keys),
-            Kind::Schedule(left) => return self.begin(heap, purpose, left),
+        let Some(waiting) = self.waiting.take() else {
+            return Ok(Ok(None));
         };
-        Ok(place(&mut self.alone, purpose, board))
+        let waiting = waiting.with_line(line)?;
+        Ok(self.read_on(waiting))
     }
 
     // One call.
-    fn call(&mut self, heap: Global, line: &str) -> Result<Reply, AllocError>
-        ensures { IfOk result (λ reply. Called (call_of line.now) self.old reply self.new) }
+    pub fn call(&mut self, call: Call) -> Outcome
+        ensures { CallMade call self.old result self.new }
     {
-        Ok(match parse_call(line) {
-            Ok(Call::Make(purpose, kind)) => return self.make(heap, purpose, kind),
-            Ok(Call::Listing) => Reply::Listing,
-            Ok(Call::Load) => Reply::Load,
-            Ok(Call::OfMachine(call)) => Reply::Call(call),
-            Ok(Call::Trace(steps)) => Reply::Trace(steps),
-            Ok(Call::OfBoard(call)) => Reply::Said(call_board(&mut self.alone, call)),
-            Ok(Call::NotOffered) => Reply::Said(Answer::Failed(Failure::NotOffered)),
-            Err(problem) => Reply::Said(Answer::Failed(Failure::Line(problem))),
+        match call {
+            Call::Make(purpose, kind) => self.make(purpose, kind),
+            Call::Listing => Ok(Some(Reply::Listing)),
+            Call::OfBoard(call) => Ok(Some(Reply::Said(call_board(&mut self.alone, call)?))),
+            Call::NotOffered => Err(Failure::NotOffered),
+        }
+    }
+
+    // Makes the board that a call describes.
+    fn make(&mut self, purpose: Purpose, kind: Kind) -> Outcome
+        ensures { MadeOf purpose kind self.old result self.new }
+    {
+        let made = match kind {
+            Kind::Switches(reading) => switches(reading),
+            Kind::Matrix(keys) => matrix(keys),
+            Kind::Schedule(left) => return self.begin(purpose, left),
+        };
+        Ok(Some(place(&mut self.alone, purpose, made)?))
+    }
+
+    // Begins to read a schedule of so many entries.
+    fn begin(&mut self, purpose: Purpose, left: u32) -> Outcome
+        ensures { Begun purpose left self.old result self.new }
+    {
+        let entries = Some(Vec::new(self.heap));
+        self.read_on(Waiting {
+            purpose,
+            left,
+            entries,
         })
+    }
+
+    // Waits for the entries that are still to come, or makes the board.
+    fn read_on(&mut self, waiting: Waiting) -> Outcome
+        ensures { Read waiting self.old result self.new }
+    {
+        if waiting.left > 0 {
+            self.waiting = Some(waiting);
+            return Ok(None);
+        }
+        let Waiting {
+            purpose,
+            entries,
+            ..
+        } = waiting;
+        let board = schedule(entries.ok_or(Failure::BadEntry)?);
+        Ok(Some(place(&mut self.alone, purpose, board)?))
     }
 }

@@ -13,6 +13,7 @@ use Rattle.chip.specs.Map.{location_of}
 use Rattle.chip.specs.Memory.{read, written, written_at}
 use Rattle.chip.specs.Stack.{pushed, pulled, pulled_byte}
 use Rattle.chip.specs.State.{with_registers, with_timer, with_mode, with_flags}
+use Rattle.opcodes.specs.declared.addressing.Instruction.{Instruction as Instructions}
 use Rattle.opcodes.specs.declared.addressing.Row.{Row}
 use Rattle.opcodes.specs.declared.operation.Control.{Control as Controls}
 use Rattle.opcodes.specs.declared.operation.Control.TheVariants.{Mul, Tax, Txa, Clc, Sec, Cli, Sei, Rsp, Nop, Rti, Rts, Swi, Stop, Wait}
@@ -175,12 +176,12 @@ executes row first second r s h =
     (jumps ((s.registers.pc + row.length) % address_space) s h (omega arith))
 
 -- an instruction comes only where the chip neither enters nor rests
-active : (e t rest x : Bool) (i : Option Action) (row : Row) (first second : ℕ)
-    → cond e (Some External) (cond t (Some Timer) (cond rest (Some Idle) (cond x i (Some IllegalAddress)))) ≡ Some (Instruction row first second) → rest ≡ false
-active true t rest x i row first second h = cc
-active false true rest x i row first second h = cc
-active false false true x i row first second h = cc
-active false false false x i row first second h = refl
+active : (e t rest x : Bool) (o : Option Action) (i : Instructions)
+    → cond e (Some External) (cond t (Some Timer) (cond rest (Some Idle) (cond x o (Some IllegalAddress)))) ≡ Some (Instruction i) → rest ≡ false
+active true t rest x o i h = cc
+active false true rest x o i h = cc
+active false false true x o i h = cc
+active false false false x o i h = refl
 
 running : (k : Mode) → rests k ≡ false → k ≡ Running
 running Running e = refl
@@ -193,6 +194,6 @@ acting_sound External r s e h = runs_sound (acted External r s) (enters vector.E
 acting_sound Timer r s e h = runs_sound (acted Timer r s) (enters vector.Timer (with_mode Running s) (h.0, h.1, h.2, h.3, refl))
 acting_sound Idle r s e h = h
 acting_sound IllegalAddress r s e h = h
-acting_sound (Instruction row first second) r s e h =
-    let still = active (external_due s) (timer_due s) (rests s.mode) (executable s.registers.pc) (instruction_in r s) row first second e in
-    executes row first second r s (h.0, h.1, h.2, h.3, running s.mode still)
+acting_sound (Instruction i) r s e h =
+    let still = active (external_due s) (timer_due s) (rests s.mode) (executable s.registers.pc) (instruction_in r s) i e in
+    executes i.row i.first i.second r s (h.0, h.1, h.2, h.3, running s.mode still)

@@ -35,7 +35,7 @@ rests Stopped = true
 -- an instruction, where the code has one
 abbrev pub instruction_by : Option Row → Fetched → Option Action
 instruction_by None f = None
-instruction_by (Some row) f = Some (Instruction row f.first f.second)
+instruction_by (Some row) f = Some (Instruction (record { row = row; first = f.first; second = f.second }))
 
 abbrev pub instruction_in : Reading → Chip → Option Action
 instruction_in r s = instruction_by (row_of (fetched r s).code) (fetched r s)
@@ -54,14 +54,14 @@ kind_in External = kind.External
 kind_in Timer = kind.Timer
 kind_in Idle = kind.Idle
 kind_in IllegalAddress = kind.IllegalAddress
-kind_in (Instruction row first second) = kind.Instruction
+kind_in (Instruction i) = kind.Instruction
 
 abbrev pub cost_of : Action → ℕ
 cost_of External = 10
 cost_of Timer = 10
 cost_of Idle = 1
 cost_of IllegalAddress = 2
-cost_of (Instruction row first second) = row.cycles
+cost_of (Instruction i) = i.row.cycles
 
 abbrev pub stopped : Mode → Bool
 stopped Running = false
@@ -74,14 +74,14 @@ raises_clock External m = true
 raises_clock Timer m = true
 raises_clock Idle m = not (stopped m)
 raises_clock IllegalAddress m = true
-raises_clock (Instruction row first second) m = true
+raises_clock (Instruction i) m = true
 
 abbrev pub is_illegal : Action → Bool
 is_illegal External = false
 is_illegal Timer = false
 is_illegal Idle = false
 is_illegal IllegalAddress = true
-is_illegal (Instruction row first second) = false
+is_illegal (Instruction i) = false
 
 -- the chip before its cycles
 abbrev pub acted : Action → Reading → Chip → Chip
@@ -89,7 +89,7 @@ acted External r s = entered_external s
 acted Timer r s = entered_timer s
 acted Idle r s = s
 acted IllegalAddress r s = s
-acted (Instruction row first second) r s = executed_as row first second r s
+acted (Instruction i) r s = executed_as i.row i.first i.second r s
 
 -- what was written
 unfoldable pub action_writes : Action → Reading → Chip → Writes
@@ -97,7 +97,7 @@ action_writes External r s = entry_writes s
 action_writes Timer r s = entry_writes s
 action_writes Idle r s = []
 action_writes IllegalAddress r s = []
-action_writes (Instruction row first second) r s = row_writes row first second r (past row s)
+action_writes (Instruction i) r s = row_writes i.row i.first i.second r (past i.row s)
 
 -- an action takes 1 to 11 cycles
 abbrev pub Affordable : Option Action → Type 0

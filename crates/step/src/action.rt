@@ -1,23 +1,22 @@
 // What a step will do, decided before anything is altered.
-ghost use Rattle.std.specs.Prelude.{◌≡◌, ◌<◌};
+ghost use Rattle.std.specs.Prelude.{◌≡◌};
 ghost use Rattle.step.specs.Action.{Affordable, acted, action_of, cost_of, external_due, instruction_in, is_illegal, kind_in, raises_clock, timer_due};
 
 use crate::answer::Kind;
 use board::reading::Reading;
 use chip::state::{Chip, Mode};
 use execute::entry::{enter_external, enter_timer};
-use execute::fetch::{execute, fetch};
-use opcodes::{Row, row};
+use execute::fetch::{Fetched, execute, fetch};
+use opcodes::{Instruction, row};
 use part::layout::executable;
 
-// An instruction comes with its row and the two bytes after its code.
 #[derive(Clone, Copy)]
 pub enum Action {
     External,
     Timer,
     Idle,
     IllegalAddress,
-    Instruction(Row, u8, u8),
+    Instruction(Instruction),
 }
 
 // Whether the external interrupt is due: I clear, IRQE and IRQF.
@@ -36,18 +35,20 @@ fn timer_due(chip: &Chip) -> bool
 
 // The instruction at the program counter, or `None` for a code without one.
 fn instruction(chip: &Chip, reading: &Reading) -> Option<Action>
-    requires { chip.now.registers.pc < 2048 }
     ensures is { result ≡ instruction_in reading.now chip.now }
     ensures cost { Affordable result }
 {
-    let fetched = fetch(chip, reading);
-    let row = row(fetched.code)?;
-    Some(Action::Instruction(row, fetched.first, fetched.second))
+    let Fetched {
+        code,
+        first,
+        second,
+    } = fetch(chip, reading);
+    let row = row(code)?;
+    Some(Action::Instruction(Instruction { row, first, second }))
 }
 
 // What the next step does, or `None` where it meets a code without an instruction.
 pub fn next_action(chip: &Chip, reading: &Reading) -> Option<Action>
-    requires { chip.now.registers.pc < 2048 }
     ensures is { result ≡ action_of reading.now chip.now }
     ensures cost { Affordable result }
 {
@@ -59,13 +60,8 @@ pub fn next_action(chip: &Chip, reading: &Reading) -> Option<Action>
     }
     match chip.mode {
         Mode::Waiting | Mode::Stopped => Some(Action::Idle),
-        Mode::Running => {
-            if executable(chip.registers.pc) {
-                instruction(chip, reading)
-            } else {
-                Some(Action::IllegalAddress)
-            }
-        }
+        Mode::Running if executable(chip.registers.pc) => instruction(chip, reading),
+        Mode::Running => Some(Action::IllegalAddress),
     }
 }
 
@@ -78,7 +74,7 @@ impl Action {
             Action::Timer => Kind::Timer,
             Action::Idle => Kind::Idle,
             Action::IllegalAddress => Kind::IllegalAddress,
-            Action::Instruction(_, _, _) => Kind::Instruction,
+            Action::Instruction(_) => Kind::Instruction,
         }
     }
 
@@ -90,7 +86,7 @@ impl Action {
             Action::External | Action::Timer => 10,
             Action::Idle => 1,
             Action::IllegalAddress => 2,
-            Action::Instruction(row, _, _) => row.cycles,
+            Action::Instruction(instruction) => instruction.row.cycles,
         }
     }
 
@@ -98,19 +94,13 @@ impl Action {
     pub fn raises_clock(&self, mode: Mode) -> bool
         ensures { result ≡ raises_clock self.now mode }
     {
-        match (self, mode) {
-            (Action::Idle, Mode::Stopped) => false,
-            _ => true,
-        }
+        !matches!((self, mode), (Action::Idle, Mode::Stopped))
     }
 
     pub fn is_illegal(&self) -> bool
         ensures { result ≡ is_illegal self.now }
     {
-        match self {
-            Action::IllegalAddress => true,
-            _ => false,
-        }
+        matches!(self, Action::IllegalAddress)
     }
 
     // What it does to the chip before its cycles.
@@ -118,9 +108,7 @@ impl Action {
         ensures { chip.new ≡ acted self.now reading.now chip.old }
     {
         match self {
-            Action::Instruction(row, first, second) => execute(
-                chip, reading, *row, *first, *second,
-            ),
+            Action::Instruction(instruction) => execute(chip, reading, *instruction),
             Action::External => enter_external(chip),
             Action::Timer => enter_timer(chip),
             Action::Idle | Action::IllegalAddress => {}

@@ -1,4 +1,4 @@
-pub mod Splits
 pub mod Digits
-pub mod Pairs
+pub mod Words
 pub mod Texts
+pub mod HexText

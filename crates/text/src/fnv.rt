@@ -16,11 +16,7 @@ pub fn fnv_with(hash: u32, byte: u8) -> u32
 pub fn fnv_from(start: u32, bytes: &[u8]) -> u32
     ensures { result ≡ fnv_from start bytes.now }
 {
-    let mut hash = start;
-    for byte in bytes {
-        hash = fnv_with(hash, *byte);
-    }
-    hash
+    bytes.iter().fold(start, |hash, byte| fnv_with(hash, *byte))
 }
 
 // The hash of these bytes.

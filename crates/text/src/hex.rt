@@ -31,17 +31,15 @@ fn pairs_of(heap: Global, digits: &[u8]) -> Result<Option<Vec<u8>>, AllocError>
     ensures { IfOk result (λ o. option_map vec_items o ≡ pairs_after [] digits.now) }
 {
     let mut bytes = Vec::new(heap);
-    for i in 0..digits.len() / 2 {
-        let Some(byte) = hex_pair(digits[2 * i], digits[2 * i + 1]) else {
+    let mut left = digits;
+    while let [high, low, rest @ ..] = left {
+        let Some(byte) = hex_pair(*high, *low) else {
             return Ok(None);
         };
         bytes.push(byte)?;
+        left = rest;
     }
-    if digits.len() % 2 == 0 {
-        Ok(Some(bytes))
-    } else {
-        Ok(None)
-    }
+    Ok(left.is_empty().then_some(bytes))
 }
 
 // The byte string that a word writes, or `None` where it writes none.

@@ -17,6 +17,5 @@ pub fn content(line: &[u8]) -> &[u8]
 pub fn is_skipped(line: &str) -> bool
     ensures { result ≡ skipped line.now }
 {
-    let bytes = line.as_bytes();
-    bytes.is_empty() || bytes[0] == b'#'
+    line.is_empty() || line.starts_with('#')
 }

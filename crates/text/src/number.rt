@@ -1,14 +1,8 @@
 // Decimal numbers.
 ghost use Rattle.std.specs.Prelude.{◌≡◌, ◌≤◌, IfSome};
-ghost use Rattle.text.specs.Numbers.{number_of, is_digit};
+ghost use Rattle.text.specs.Numbers.{number_of};
 
-fn is_digit(byte: u8) -> bool
-    ensures { result ≡ is_digit byte }
-{
-    b'0' <= byte && byte <= b'9'
-}
-
-// The number that the word writes in decimal digits, if it is not above the limit.
+// The number that the word writes in decimal digits, if it is not above the limit. A wider number holds one digit more, so that one comparison says all.
 pub fn number(word: &str, limit: u64) -> Option<u64>
     ensures is { result ≡ number_of limit word.now }
     ensures within { IfSome result (λ n. n ≤ limit) }
@@ -19,7 +13,7 @@ pub fn number(word: &str, limit: u64) -> Option<u64>
     }
     let mut value: u64 = 0;
     for digit in digits {
-        if !is_digit(*digit) {
+        if !digit.is_ascii_digit() {
             return None;
         }
         let longer = u128::from(value) * 10 + u128::from(*digit - b'0');

@@ -1,5 +1,5 @@
 // What cycles make of the timer.
-ghost use Rattle.std.specs.Prelude.{◌≡◌, ◌+◌, ◌<◌, ◌≤◌};
+ghost use Rattle.std.specs.Prelude.{◌≡◌, ◌+◌, ◌<◌};
 ghost use Rattle.timer.specs.Clock.{Runs, period, passes, risen_by};
 
 use crate::state::Timer;
@@ -15,7 +15,7 @@ fn period(rate: u8) -> u32
     requires { rate < 4 }
     ensures { result ≡ period rate }
 {
-    1u32 << (14 + rate)
+    1 << (14 + rate)
 }
 
 // Whether t reaches a multiple of n in so many cycles.
@@ -38,9 +38,7 @@ impl Timer {
             self.tof = true;
             if passes(period(self.rate), t, cycles) {
                 self.rtif = true;
-                if watched {
-                    self.stage += 1;
-                }
+                self.stage += u8::from(watched);
             }
         }
     }

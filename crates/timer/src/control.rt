@@ -10,15 +10,7 @@ impl Timer {
     pub fn new() -> Timer
         ensures { result ≡ zeroed }
     {
-        Timer {
-            t: 0,
-            tof: false,
-            rtif: false,
-            toie: false,
-            rtie: false,
-            rate: 0,
-            stage: 0,
-        }
+        Timer::default()
     }
 
     // What $0008 reads.
@@ -47,7 +39,8 @@ impl Timer {
     pub fn counter(&self) -> u8
         ensures { result ≡ counter self.now }
     {
-        (self.t / 4 % 256) as u8
+        let [low, ..] = (self.t / 4).to_le_bytes();
+        low
     }
 
     // Whether it asks for an interrupt.
@@ -80,7 +73,7 @@ impl Timer {
     {
         *self = Timer {
             rate: 3,
-            ..Timer::new()
+            ..Timer::default()
         };
     }
 }

@@ -8,6 +8,7 @@ use super::Machine;
 use crate::answer::{RunAnswer, RunEnd};
 use board::contract::Board;
 use chip::state::Chip;
+use cycles::Fitted;
 use part::image::{ImageRefused, check_image};
 use refusal::Refusal;
 use step::answer::StepAnswer;
@@ -34,10 +35,9 @@ impl<B: Board> Machine<B> {
         let chip = Chip::new();
         board.tell(chip.outputs());
         Machine {
-            chip,
+            fitted: Fitted { chip, board },
             total: 0,
             loaded: false,
-            board,
         }
     }
 
@@ -46,10 +46,11 @@ impl<B: Board> Machine<B> {
         ensures { (result, state self.new) ≡ load_of B.Board image.now (state self.old) }
     {
         check_image(image)?;
-        let before = self.chip.outputs();
-        take_image(&mut self.chip, image);
-        tell_altered(&mut self.board, &before, &self.chip.outputs());
-        self.chip.interrupt.active = self.chip.active(&self.board.show());
+        let Fitted { chip, board } = &mut self.fitted;
+        let before = chip.outputs();
+        take_image(chip, image);
+        tell_altered(board, &before, &chip.outputs());
+        chip.interrupt.active = chip.active(&board.show());
         self.total = 0;
         self.loaded = true;
         Ok(())
@@ -72,12 +73,8 @@ impl<B: Board> Machine<B> {
     pub fn step(&mut self) -> Result<StepAnswer, Refusal>
         ensures { (result, state self.new) ≡ step_of B.Board (state self.old) }
     {
-        if let Err(refusal) = self.may_step() {
-            return Err(refusal);
-        }
-        let Some(answer) = step_chip(&mut self.chip, &mut self.board) else {
-            return Err(Refusal::NoInstruction);
-        };
+        self.may_step()?;
+        let answer = step_chip(&mut self.fitted).ok_or(Refusal::NoInstruction)?;
         self.total += u64::from(answer.cost);
         Ok(answer)
     }

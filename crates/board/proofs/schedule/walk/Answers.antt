@@ -1,25 +1,19 @@
-use Rattle.std.proofs.Common.{sym, refl, ◌∙◌, arith}
-use Rattle.board.proofs.Entries.{come, late}
+use Rattle.std.proofs.Common.{take, sym, ◌∙◌, arith}
+use Rattle.std.proofs.lemmas.List.{length-take-le}
+use Rattle.board.proofs.Entries.{passed_within, shown_is, is_last, is_none}
 use Rattle.board.proofs.schedule.walk.Goals as goal
 
-pub loop-next-init : goal.loop-next-init
-loop-next-init c = (refl, refl)
+pub slice_bounds-last-end : goal.slice_bounds-last-end
+slice_bounds-last-end c = sym (length-take-le c.passed-come.result c.args.coming.now (omega (arith, passed_within c.args.coming.now c.args.at)))
 
-pub loop-next-preserved : goal.loop-next-preserved
-loop-next-preserved c =
-    let p = come c.args.entries.now c.loop-next.next c.args.at c.loop-next.shown c.loop-next-test.true (sym c.if-has_come.ensures) in
-    (omega arith, c.loop-next.invariant.1 ∙ p.1)
+pub returns-in-Some : goal.returns-in-Some
+returns-in-Some c =
+    let n = c.passed-come.result in
+    let es = c.args.coming.now in
+    (c.passed-come.ensures, is_last c.args.current (take n es) c.in-Some.entry.now c.in-Some.ensures.value ∙ shown_is c.args.current es c.args.at n c.passed-come.ensures)
 
-pub returns-else-has_come : goal.returns-else-has_come
-returns-else-has_come c =
-    let p = late c.args.entries.now c.loop-next.next c.args.at c.loop-next.shown (λ _. sym c.if-has_come.ensures) in
-    let a = p.0 in
-    let b = p.1 in
-    (omega arith, cc)
-
-pub returns-after-loop-next : goal.returns-after-loop-next
-returns-after-loop-next c =
-    let p = late c.args.entries.now c.loop-next.next c.args.at c.loop-next.shown (λ lt. absurd (omega arith)) in
-    let a = p.0 in
-    let b = p.1 in
-    (omega arith, cc)
+pub returns-in-None : goal.returns-in-None
+returns-in-None c =
+    let n = c.passed-come.result in
+    let es = c.args.coming.now in
+    (c.passed-come.ensures, is_none c.args.current (take n es) c.in-None.ensures.value ∙ shown_is c.args.current es c.args.at n c.passed-come.ensures)

@@ -1,20 +1,19 @@
-use Rattle.std.proofs.Common.{sym, ◌∙◌}
-use Rattle.std.proofs.lemmas.List.{at_drop_all}
-use Rattle.part.specs.Image.{clean_from}
-use Rattle.part.proofs.Images.{clean_more, clean_stops, of_length}
+use Rattle.std.proofs.Common.{rules, refl, sym, ap, ◌∙◌}
+use borrow.Author.Tests.{tests}
+use Rattle.std.specs.Option.{option_map}
+use Rattle.std.proofs.lemmas.Iterator.{YieldsList-from_range, YieldsList-from_slice, YieldsList-from_zip}
+use Rattle.std.proofs.lemmas.Iterator.Search.{find_from_yields_List}
+use Rattle.part.proofs.Images.{stray, verdict, image_by_find}
 use Rattle.part.proofs.image.check_image.Goals as goal
 
-pub returns-then-not-may_hold : goal.returns-then-not-may_hold
-returns-then-not-may_hold c =
-    let stop = clean_stops c.args.bytes.now c.loop-i.i c.loop-i-test.true (sym c.if-not-may_hold.ensures) in
-    sym (of_length c.args.bytes.now c.if-bytes.false ∙ c.loop-i.invariant ∙ stop)
+pub returns-in-Some : goal.returns-in-Some
+returns-in-Some c =
+    let bytes = c.args.bytes.now in
+    let f = find_from_yields_List stray c.find.new.self _ c.find.result c.find.ensures.ran (YieldsList-from_zip (YieldsList-from_range 0 2048 2048 (cc) refl) (YieldsList-from_slice bytes (cc))) (λ x b q k. search (rules, tests)) in
+    ap (λ r. verdict (option_map (λ p. (p.0, p.1.now)) r)) (sym c.in-Some.is) ∙ ap verdict f ∙ image_by_find bytes (c.if-bytes-from.false ∙ c.from.ensures)
 
-pub loop-i-preserved : goal.loop-i-preserved
-loop-i-preserved c =
-    c.loop-i.invariant ∙ clean_more c.args.bytes.now c.loop-i.i c.loop-i-test.true (sym c.if-not-may_hold.ensures)
-
-pub returns : goal.returns
-unfolding clean_from
-returns c =
-    let all = at_drop_all (clean_from c.loop-i.i) c.args.bytes.now c.loop-i.i c.loop-i-test.false in
-    sym (of_length c.args.bytes.now c.if-bytes.false ∙ c.loop-i.invariant ∙ all)
+pub returns-in-None : goal.returns-in-None
+returns-in-None c =
+    let bytes = c.args.bytes.now in
+    let f = find_from_yields_List stray c.find.new.self _ c.find.result c.find.ensures.ran (YieldsList-from_zip (YieldsList-from_range 0 2048 2048 (cc) refl) (YieldsList-from_slice bytes (cc))) (λ x b q k. search (rules, tests)) in
+    ap (λ r. verdict (option_map (λ p. (p.0, p.1.now)) r)) (sym c.in-None.is) ∙ ap verdict f ∙ image_by_find bytes (c.if-bytes-from.false ∙ c.from.ensures)

@@ -1,19 +1,14 @@
-use Rattle.std.proofs.Common.{sym, ◌∙◌}
+use Rattle.std.proofs.Common.{sym, ap, ◌∙◌}
 use Rattle.step.proofs.Working.{made, not_made}
 use Rattle.step.proofs.step.step_chip.Goals as goal
 
-pub returns-in_default : goal.returns-in_default
-returns-in_default g c =
-    record {
-      is = not_made g.B.Board c.args.chip.now c.args.board.now c.show-reading.result c.show-reading.ensures (sym c.next_action.ensures.is ∙ c.in_default.is);
-      sound = c.requires;
-    }
+pub returns-in_err-action-clause-is : goal.returns-in_err-action-clause-is
+returns-in_err-action-clause-is g c =
+    let s = c.args.fitted.now.chip in
+    let b = c.args.fitted.now.board in
+    ap (λ o. (o, (s, b))) c.from_residual.ensures ∙ not_made g.B.Board s b c.show-reading.result c.show-reading.ensures (sym c.next_action.ensures.is ∙ c.in_err-action.was)
 
-pub returns : goal.returns
-returns g c =
-    record {
-      is =
-          made g.B.Board c.args.chip.now c.args.board.now c.show-reading.result c.show-reading.ensures c.in-Some.action c.work.result (c.work.new.chip, c.work.new.board)
-          (sym c.next_action.ensures.is ∙ c.in-Some.is) c.work.ensures.is;
-      sound = c.work.ensures.sound;
-    }
+pub returns-clause-is : goal.returns-clause-is
+returns-clause-is g c =
+    made g.B.Board c.args.fitted.now.chip c.args.fitted.now.board c.show-reading.result c.show-reading.ensures c.in_ok-action.action c.work.result
+    (c.work.new.fitted.chip, c.work.new.fitted.board) (sym c.next_action.ensures.is ∙ c.in_ok-action.was) c.work.ensures.is

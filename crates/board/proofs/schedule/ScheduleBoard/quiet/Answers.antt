@@ -1,31 +1,29 @@
-use Rattle.std.proofs.Common.{◌<◌, ◌≤◌, ltb, length, sym, ap, ◌∙◌, arith}
-use Rattle.std.proofs.lemmas.List.{get_or_read}
-use Rattle.std.proofs.lemmas.Bool.{ltb-true, ltb-false}
+use Rattle.std.proofs.Common.{◌≡◌, ℕ, ◌<◌, ◌≤◌, List, [], ◌∷◌, length, get_or, refl, ap, arith}
+use Rattle.board.specs.declared.schedule.Entry.{Entry}
 use Rattle.board.specs.Reading.{on_pins}
-use Rattle.board.specs.Schedule.{calm_after}
-use Rattle.board.proofs.Entries.{no_entry, unchanged, calm_here, calm_past}
+use Rattle.board.specs.Schedule.{ahead, calm_after, calm_before}
+use Rattle.board.proofs.Entries.{no_entry, unchanged}
 use Rattle.board.proofs.schedule.ScheduleBoard.quiet.Goals as goal
 
-pub returns-in-Some : goal.returns-in-Some
-returns-in-Some c =
-    let s = c.args.self.now in
-    let es = s.entries.now in
-    let here = ltb s.next (length es) in
-    let lt : s.next < length es = ltb-true s.next (length es) (sym {b = here} c.in-Some.ensures.lookup.0) in
-    let e = get_or_read es s.next c.in-Some.entry.now lt c.in-Some.ensures.lookup.1 no_entry in
-    let calm = ap (calm_after s.at) e in
-    record {
-      still = λ k h. ap on_pins (unchanged es s.next s.at k s.current (λ _. omega (arith, calm)));
-      answer = c.calm_after.ensures ∙ calm ∙ sym (calm_here es s.next s.at lt);
-    }
+calm_first : (at : ℕ) (es : List Entry) → 1 ≤ length es → calm_before at es ≡ calm_after at (get_or es 0 no_entry)
+calm_first at [] h = absurd (omega arith)
+calm_first at (e ∷ es) h = refl
 
-pub returns-in-None : goal.returns-in-None
-returns-in-None c =
+calm_none : (at : ℕ) (es : List Entry) → length es < 1 → calm_before at es ≡ 65535
+calm_none at [] h = refl
+calm_none at (e ∷ es) h = absurd (omega arith)
+
+pub returns-in-empty-clause-still : goal.returns-in-empty-clause-still
+returns-in-empty-clause-still c =
     let s = c.args.self.now in
-    let es = s.entries.now in
-    let here = ltb s.next (length es) in
-    let past : length es ≤ s.next = ltb-false s.next (length es) (sym {b = here} c.in-None.ensures.lookup.0) in
-    record {
-      still = λ k h. ap on_pins (unchanged es s.next s.at k s.current (λ lt. absurd (omega arith)));
-      answer = sym (calm_past es s.next s.at past);
-    }
+    let n = ap length c.coming.ensures in
+    let calm = calm_none s.at (ahead s) (omega (arith, c.in-empty.len_below)) in
+    λ k h. ap on_pins (unchanged (ahead s) s.at k s.current (omega arith))
+
+pub returns-in-len1-up-clause-still : goal.returns-in-len1-up-clause-still
+returns-in-len1-up-clause-still c =
+    let s = c.args.self.now in
+    let n = ap length c.coming.ensures in
+    let first = ap (λ es. calm_after s.at (get_or es 0 no_entry)) c.coming.ensures in
+    let calm = calm_first s.at (ahead s) (omega (arith, c.in-len1-up.len_at_least)) in
+    λ k h. ap on_pins (unchanged (ahead s) s.at k s.current (omega (arith, c.calm_after.ensures)))

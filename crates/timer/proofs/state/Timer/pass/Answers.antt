@@ -1,22 +1,20 @@
-use Rattle.std.proofs.Common.{◌+◌, ◌%◌, ◌^◌, true, false, cond, ◌&&◌, sym, ap, ◌∙◌}
+use Rattle.std.proofs.Common.{◌≡◌, ℕ, ◌+◌, ◌%◌, ◌^◌, Bool, true, false, cond, ◌&&◌, sym, ap, ◌∙◌, arith}
 use borrow.Author.Tests.{false-leb}
+use mir.Val.{bool_byte}
 use Rattle.timer.specs.Clock.{passes}
 use Rattle.timer.proofs.Clocks.{calm, passed, with, off}
 use Rattle.timer.proofs.state.Timer.pass.Goals as goal
 
-pub returns-then-watched : goal.returns-then-watched
-returns-then-watched c =
-    let m = c.args.self.now in
-    let tap = ap (λ p. passes p m.t c.args.cycles) (sym c.period.ensures) ∙ sym c.if-passes-2.ensures in
-    let all = passed c.args.watched c.args.cycles m c.requires.1 c.requires.0 true (sym c.if-passes.ensures) tap in
-    sym (all ∙ ap (λ w. with ((m.t + c.args.cycles) % 2 ^ 17) true true (cond (w && true) (m.stage + 1) m.stage) m) c.if-watched.true)
+raised : (on : Bool) (s f : ℕ) → f ≡ bool_byte on → cond (on && true) (s + 1) s ≡ s + f
+raised true s f e = rw e
+raised false s f e = omega arith
 
-pub returns-else-watched : goal.returns-else-watched
-returns-else-watched c =
+pub returns-then-passes-2 : goal.returns-then-passes-2
+returns-then-passes-2 c =
     let m = c.args.self.now in
     let tap = ap (λ p. passes p m.t c.args.cycles) (sym c.period.ensures) ∙ sym c.if-passes-2.ensures in
     let all = passed c.args.watched c.args.cycles m c.requires.1 c.requires.0 true (sym c.if-passes.ensures) tap in
-    sym (all ∙ ap (λ w. with ((m.t + c.args.cycles) % 2 ^ 17) true true (cond (w && true) (m.stage + 1) m.stage) m) c.if-watched.false)
+    sym (all ∙ ap (λ s. with ((m.t + c.args.cycles) % 2 ^ 17) true true s m) (raised c.args.watched m.stage c.from.result c.from.ensures))
 
 pub returns-else-passes-2 : goal.returns-else-passes-2
 returns-else-passes-2 c =
