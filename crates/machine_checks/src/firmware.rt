@@ -7,7 +7,7 @@ use part::image::*;
 use std::test::Fail;
 
 // An image with this code at $0300, where it starts, and this option byte.
-pub fn image_of(code: &[u8], options: u8) -> [u8; 2048] {
+pub(crate) fn image_of(code: &[u8], options: u8) -> [u8; 2048] {
     let mut image = [0u8; 2048];
     for (place, byte) in image[0x300..0x7D0].iter_mut().zip(code) {
         *place = *byte;
@@ -18,7 +18,7 @@ pub fn image_of(code: &[u8], options: u8) -> [u8; 2048] {
 }
 
 // Port A driven at this level where its open bits are 0, port B open, IRQ at 1.
-pub fn port_a(level_a: u8, open_a: u8) -> Reading {
+pub(crate) fn port_a(level_a: u8, open_a: u8) -> Reading {
     Reading {
         level_a,
         open_a,
@@ -29,7 +29,7 @@ pub fn port_a(level_a: u8, open_a: u8) -> Reading {
 }
 
 // A machine on open pins, with this code and no options.
-pub fn machine_with(code: &[u8]) -> Result<Machine<Switches>, Fail> {
+pub(crate) fn machine_with(code: &[u8]) -> Result<Machine<Switches>, Fail> {
     let mut machine = Machine::new(Switches::new(port_a(0, 255))?);
     machine.load(&image_of(code, 0))?;
     Ok(machine)
