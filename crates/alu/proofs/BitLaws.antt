@@ -11,7 +11,7 @@ use Rattle.alu.specs.Pins.{chosen, pin_levels, EachPin}
 digit : (x m a b : ℕ) → m < 2 → a < 2 → b < 2 → x ≡ max (min m a) (min (1 - m) b) → eqb x 1 ≡ cond (eqb m 1) (eqb a 1) (eqb b 1)
 digit x m a b h k l e = grind (arith, nat_tests)
 
-chosen_bit : (m a b k : ℕ) → m < 256 → k < 8 → bit_at (chosen m a b) k ≡ cond (bit_at m k) (bit_at a k) (bit_at b k)
+pub chosen_bit : (m a b k : ℕ) → m < 256 → k < 8 → bit_at (chosen m a b) k ≡ cond (bit_at m k) (bit_at a k) (bit_at b k)
 chosen_bit m a b k h l =
     digit (digit_at (chosen m a b) k) (digit_at m k) (digit_at a k) (digit_at b k) (bit_at-lt m k) (bit_at-lt a k) (bit_at-lt b k)
     (simp (bit_at_or, bit_at_and, bit_at_not w8 m k h l))

@@ -28,7 +28,7 @@ impl Chip {
                 ..Registers::default()
             },
             ports: Ports::default(),
-            timer: Timer::default(),
+            timer: Timer::new(),
             interrupt: Interrupt::default(),
             mode: Mode::Running,
             ram: [0; 64],

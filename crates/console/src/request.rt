@@ -1,6 +1,6 @@
 // What a line calls for where no machine is offered.
 ghost use Rattle.std.specs.Prelude.{◌≡◌, IfOk};
-ghost use Rattle.console.specs.Request.{requested, LineHeard};
+ghost use Rattle.console.specs.Request.{requested, BoardsAnswered, LineHeard};
 
 use session::answer::Answer;
 use session::failure::Failure;
@@ -33,7 +33,8 @@ pub fn hear(
     session: &mut Session,
     line: &str,
 ) -> Result<Result<Option<Request>, Failure>, AllocError>
-    ensures { IfOk result (λ request. LineHeard line.now session.old request session.new) }
+    ensures heard { IfOk result (λ request. LineHeard line.now session.old request session.new) }
+    ensures boards { BoardsAnswered }
 {
     Ok(session.line(line)?.map(|reply| reply.map(Request::from)))
 }

@@ -68,11 +68,11 @@ fn respond(
 pub fn run(rt: &HostRuntime) -> anyhow::Result<()> {
     let mut session = Session::new(rt.alloc());
     let mut operator = Operator::new();
-    each_line(rt, |line| match hear(&mut session, line)? {
-        Ok(Some(request)) => print_answer(rt, respond(rt, line, request, &mut operator)?),
-        Ok(None) => Ok(()),
-        Err(failure) => Ok(rt.println(failure)?),
-    })?;
+    each_line(
+        rt,
+        |line| hear(&mut session, line),
+        |line, request| print_answer(rt, respond(rt, line, request, &mut operator)?),
+    )?;
     // a session's end has a failure to tell, or nothing
     if let Err(failure) = session.end() {
         rt.println(failure)?;

@@ -38,7 +38,7 @@ fn image_hash(rom: &Rom) -> u32
 }
 
 // IRQE in bit 7, the last sample in bit 1, the latch in bit 0.
-fn interrupt_byte(interrupt: &Interrupt) -> u8
+pub fn interrupt_byte(interrupt: &Interrupt) -> u8
     ensures { result ≡ interrupt_byte interrupt.now }
 {
     flag(interrupt.enable, 128) + flag(interrupt.active, 2) + flag(interrupt.latch, 1)

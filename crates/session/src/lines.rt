@@ -1,6 +1,8 @@
 // The lines of a script on standard input, and their answers on standard output.
 ghost use Rattle.std.specs.Prelude.{◌≡◌, IsUtf8};
 
+use crate::failure::Failure;
+use std::alloc::AllocError;
 use std::fmt::Display;
 use std::io::{BufRead, BufReader};
 use text::line::content;
@@ -16,12 +18,13 @@ fn text_of(line: &[u8]) -> &str
     }
 }
 
-// Hears each line up to the end of the input. Nothing says that an input ends, so the lines are counted.
-pub fn each_line<F: FnMut(&str) -> anyhow::Result<()>>(
-    rt: &HostRuntime,
-    mut hear: F,
-) -> anyhow::Result<()>
-    requires { F.IsAlwaysCallable hear }
+// Hears each line up to the end of the input, and answers what it calls for. Nothing says that an input ends, so the lines are counted. Hearing and answering are two closures: a program's error is large, and a line that calls for nothing is not to pay for one.
+pub fn each_line<
+    R,
+    H: FnMut(&str) -> Result<Result<Option<R>, Failure>, AllocError>,
+    A: FnMut(&str, R) -> anyhow::Result<()>,
+>(rt: &HostRuntime, mut hear: H, mut answer: A) -> anyhow::Result<()>
+    requires { (H.IsAlwaysCallable hear) × (A.IsAlwaysCallable answer) }
 {
     let mut input = BufReader::new(rt.alloc(), rt.stdin())?;
     let mut bytes = Vec::new(rt.alloc());
@@ -30,7 +33,12 @@ pub fn each_line<F: FnMut(&str) -> anyhow::Result<()>>(
         if input.read_until(b'\n', &mut bytes)? == 0 {
             break;
         }
-        hear(text_of(content(bytes.as_slice())))?;
+        let line = text_of(content(bytes.as_slice()));
+        match hear(line)? {
+            Ok(Some(request)) => answer(line, request)?,
+            Ok(None) => {}
+            Err(failure) => rt.println(failure)?,
+        }
     }
     Ok(())
 }

@@ -1,9 +1,9 @@
 -- What `{:02x}`, `{:04x}` and `{:08x}` write.
-use Rattle.std.proofs.Common.{◌≡◌, ℕ, zero, suc, ◌+◌, ◌-◌, ◌/◌, ◌%◌, ◌^◌, ◌<◌, ◌≤◌, true, false, eqb, List, [], ◌∷◌, ◌++◌, length, Some, replicate, sym, refl, ap, ◌∙◌, append-nil, inl, inr, arith, eq-eqb}
+use Rattle.std.proofs.Common.{◌≡◌, ℕ, zero, suc, ◌+◌, ◌-◌, ◌*◌, ◌/◌, ◌%◌, ◌^◌, ◌<◌, ◌≤◌, true, false, eqb, List, [], ◌∷◌, ◌++◌, length, Some, replicate, sym, refl, ap, ◌∙◌, append-nil, inl, inr, arith, eq-eqb}
 use Rattle.std.specs.Fmt.{digits, digits_onto, digit_glyph, char_count, digits_output, styled_digits_output, padded_integral, format_spec}
 use Rattle.std.proofs.lemmas.Bool.{cases_Bool, eqb-true}
 use Rattle.std.proofs.lemmas.Fmt.{hex_byte}
-use Rattle.text.specs.HexText.{byte_text, word_text, quad_text}
+use Rattle.text.specs.HexText.{byte_text, word_text, quad_text, bytes_text}
 
 -- the last w digits of n, followed by acc
 abbrev pub fixed : ℕ → ℕ → List ℕ → List ℕ
@@ -90,3 +90,13 @@ word_output d s n small e f = rw (f, e, word_shown n small)
 
 pub quad_output : (d : _) (s : _) (n : ℕ) → n < 2 ^ 32 → digits_output d ≡ Some (digits 16 false n) → s ≡ format_spec 32 0 4 8 (2 ^ 64 - 1) → styled_digits_output d s ≡ Some (quad_text n)
 quad_output d s n small e f = rw (f, e, quad_shown n small)
+
+-- the digits of four bytes are those of the number that they make, the highest byte first
+pub four_shown : (a b c d n : ℕ) → a < 256 → b < 256 → c < 256 → d < 256 → n ≡ a * 16777216 + b * 65536 + c * 256 + d → quad_text n ≡ bytes_text (a ∷ b ∷ c ∷ d ∷ [])
+unfolding bytes_text
+four_shown a b c d n a' b' c' d' is =
+    let at_a : n / 65536 / 256 ≡ a = omega arith in
+    let at_b : n / 65536 % 256 ≡ b = omega arith in
+    let at_c : n % 65536 / 256 ≡ c = omega arith in
+    let at_d : n % 65536 % 256 ≡ d = omega arith in
+    rw (at_a, at_b, at_c, at_d)

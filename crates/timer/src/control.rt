@@ -73,7 +73,7 @@ impl Timer {
     {
         *self = Timer {
             rate: 3,
-            ..Timer::default()
+            ..Timer::new()
         };
     }
 }
